@@ -1,0 +1,9 @@
+pub mod Laws
+pub mod Parts
+pub mod Field
+pub mod Order
+pub mod Strict
+pub mod Whole
+pub mod Bounds
+pub mod Products
+pub mod Tests
