@@ -1,0 +1,11 @@
+pub mod Stored
+pub mod Range
+pub mod Signs
+pub mod Printed
+pub mod Answers
+pub mod Decimal
+pub mod DecimalShort
+pub mod DecimalDigits
+pub mod Arithmetic
+pub mod Checked
+pub mod Size

@@ -1,0 +1,29 @@
+//! Fractions of 128-bit whole numbers in lowest terms: made, compared, printed and read without rounding.
+//!
+//! Stands on `pami_algebra`, whose unbounded fractions are what a contract sees of a `Frac`. The layers above may
+//! rely on exact values and on each refusal coming exactly where the answer doesn't fit, and they share from here
+//! the plain types of bounds, entries and lists, and `Fault`, the answer of every call that takes memory.
+#![tactic(auto)]
+
+mod arithmetic;
+pub mod arithmetic_laws;
+#[cfg(test)]
+mod arithmetic_tests;
+mod checked;
+mod decimal;
+#[cfg(test)]
+mod decimal_tests;
+mod fault;
+mod frac;
+mod list;
+mod print;
+pub mod size;
+#[cfg(test)]
+mod tests;
+mod whole;
+
+pub use arithmetic::{Op, Refused};
+pub use decimal::read_decimal;
+pub use fault::{DecimalFault, Fault, NewFault, OutOfMemory};
+pub use frac::Frac;
+pub use list::{Bounds, Entry, FracList};
