@@ -1,0 +1,5 @@
+pub mod Scripts
+pub mod Skipped
+pub mod Values
+pub mod Members
+pub mod Loops

@@ -1,0 +1,4 @@
+pub mod Script
+pub mod Dense
+pub mod Expression
+pub mod Follows
