@@ -1,0 +1,4 @@
+pub mod Built
+pub mod Merged
+pub mod Scripted
+pub mod Joined
