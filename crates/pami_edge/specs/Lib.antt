@@ -1,0 +1,4 @@
+pub mod Outside
+pub mod Lines
+pub mod Memory
+pub mod Plan
