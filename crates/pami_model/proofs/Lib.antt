@@ -1,0 +1,5 @@
+pub mod Tables
+pub mod Changed
+pub mod Kept
+pub mod Order
+pub mod Finish

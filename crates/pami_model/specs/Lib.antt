@@ -1,0 +1,4 @@
+pub mod Rules
+pub mod Draft
+pub mod Build
+pub mod Contents

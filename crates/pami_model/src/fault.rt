@@ -1,0 +1,74 @@
+//! What a builder and a reader refuse.
+
+/// What there may be too many of.
+#[derive(Clone, Copy, Debug, PartialEq, Eq)]
+pub enum What {
+    Rows,
+    Columns,
+    Entries,
+}
+
+/// Why a builder didn't take a row, a column or an entry.
+#[derive(Clone, Copy, Debug, PartialEq, Eq)]
+pub enum BuildFault {
+    /// The row `earlier` has this name.
+    DuplicateRow { earlier: u32 },
+    /// The column `earlier` has this name.
+    DuplicateColumn { earlier: u32 },
+    /// The pair of this column and this row was taken before.
+    DuplicateEntry { column: u32, row: u32 },
+    /// The name has more than 255 bytes.
+    NameTooLong,
+    /// One more would pass the limit.
+    TooMany { what: What, limit: u32 },
+}
+
+/// The first row, or else the first column, whose lower bound is greater than its upper one.
+#[derive(Clone, Copy, Debug, PartialEq, Eq)]
+pub enum Crossed {
+    Row(u32),
+    Column(u32),
+}
+
+/// What is wrong with a line of a model file.
+#[derive(Clone, Copy, Debug, PartialEq, Eq)]
+pub enum FileKind {
+    /// A control byte.
+    Byte,
+    /// An unknown section word.
+    Section,
+    /// A section or data line out of its order.
+    Order,
+    /// A wrong count of words.
+    Words,
+    /// An unknown type of row.
+    RowType,
+    /// A mark of an integer model.
+    Integer,
+    /// A row's name that stood before.
+    DuplicateRow,
+    /// A column that begins again.
+    DuplicateColumn,
+    /// A second value of one row, in one column or among the right-hand sides.
+    DuplicateEntry,
+    /// A row that wasn't declared.
+    UnknownRow,
+    /// A word that should be a decimal and isn't.
+    Number,
+    /// A decimal past the limits.
+    Wide,
+    /// An infinite value where none may stand.
+    Infinite,
+    /// A name of more than 255 bytes.
+    NameLong,
+    /// One row more than the limit.
+    TooManyRows,
+    /// One column more than the limit.
+    TooManyColumns,
+    /// One stored entry more than the limit.
+    TooManyEntries,
+    /// The end of the file without its last section.
+    EndMissing,
+    /// More bytes than the limit.
+    TooLong,
+}
