@@ -1,0 +1,17 @@
+pub mod Changed
+pub mod ColumnLines
+pub mod Columns
+pub mod Judged
+pub mod Judging
+pub mod Keys
+pub mod Names
+pub mod Places
+pub mod RowLines
+pub mod Rows
+pub mod Seen
+pub mod Shaped
+pub mod ValueLines
+pub mod Values
+pub mod Whole
+pub mod Words
+pub mod Lines
