@@ -1,0 +1,7 @@
+pub mod Members
+pub mod Texts
+pub mod Certificates
+pub mod Small
+pub mod Printed
+pub mod Accepted
+pub mod Runs

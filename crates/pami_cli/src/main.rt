@@ -1,0 +1,42 @@
+//! The program: what the words of a call ask for, read, solved and written.
+//!
+//! Stands on all other crates. `run_plain` is the whole of it, over a shelf of named files and a sink, and carries the
+//! theorem from bytes to bytes; `main` hands it the files and the output of the machine.
+#![tactic(auto)]
+
+mod print;
+mod run;
+mod start;
+mod status;
+#[cfg(test)]
+mod tests;
+mod words;
+
+use pami_edge::{RealShelf, RealSink, Word};
+pub use run::run_plain;
+pub use status::Status;
+use std::process::ExitCode;
+use std::rt::Env;
+use std::{env, io};
+
+/// The words after the program's name.
+fn given_words<R: Env + AllocGlobal>(rt: &R) -> io::Result<Vec<Word>> {
+    let mut words = Vec::new(rt.alloc());
+    for word in env::args(rt)?.skip(1) {
+        words.push(Word::from_string(word))?;
+    }
+    Ok(words)
+}
+
+fn main(rt: HostRuntime) -> ExitCode {
+    let words = match given_words(&rt) {
+        Ok(words) => words,
+        // A word that is no text stands in no table, so these are bad words, as no words at all are.
+        Err(fault) if fault.kind() == io::ErrorKind::InvalidData => Vec::new(rt.alloc()),
+        Err(_) => return ExitCode::from(Status::OutOfMemory.code()),
+    };
+    let mut shelf = RealShelf::new(&rt);
+    let mut out = RealSink::new(rt.stdout());
+    let status = run_plain(rt.alloc(), words.as_slice(), &mut shelf, &mut out);
+    ExitCode::from(status.code())
+}

@@ -1,0 +1,43 @@
+//! How a run ends.
+
+ghost use Rattle.std.specs.Prelude.{◌≡◌};
+ghost use Rattle.pami_cli.specs.Status.{code_of};
+
+/// How a call ended, and with it the program's exit status.
+#[derive(Clone, Copy, Debug, PartialEq, Eq)]
+pub enum Status {
+    /// The answer is optimal.
+    Good,
+    /// The words aren't in the table.
+    Words,
+    /// The file isn't accepted.
+    File,
+    /// The shelf failed.
+    ReadFault,
+    /// The sink failed.
+    WriteFault,
+    /// Memory ran out.
+    OutOfMemory,
+    /// No more pivots were allowed.
+    Limit,
+    /// The starting basis isn't dual feasible.
+    NeedsPhaseOne,
+}
+
+impl Status {
+    /// The exit status of the program.
+    pub fn code(&self) -> u8
+        ensures { result ≡ code_of self.now }
+    {
+        match self {
+            Status::Good => 0,
+            Status::Words => 2,
+            Status::File => 3,
+            Status::ReadFault => 4,
+            Status::WriteFault => 5,
+            Status::OutOfMemory => 6,
+            Status::Limit => 12,
+            Status::NeedsPhaseOne => 30,
+        }
+    }
+}
