@@ -1,6 +1,6 @@
 -- The limits of a decimal as a test, and what a text is read as.
 use Rattle.std.proofs.lemmas.Bool.{leb-true, le-leb}
-use Rattle.std.proofs.Common.{◌≡◌, ℕ, ◌+◌, ◌*◌, ◌/◌, ◌%◌, ◌^◌, ◌<◌, ◌≤◌, zero, suc, Bool, true, false, cond, not, ◌&&◌, ◌||◌, ◌==◌, nat_le, ◌⊎◌, inl, inr, ◌↔◌, List, Result, Ok, Err, refl, sym, ap, ◌∙◌, subst, arith, IsTrue, true≢false}
+use Rattle.std.proofs.Common.{◌≡◌, ℕ, ◌*◌, ◌/◌, ◌%◌, ◌^◌, ◌<◌, ◌≤◌, zero, suc, Bool, true, false, cond, not, ◌&&◌, ◌||◌, ◌==◌, nat_le, ◌⊎◌, inl, inr, ◌↔◌, List, Result, Ok, Err, refl, sym, ap, ◌∙◌, subst, arith, IsTrue, true≢false}
 use Rattle.std.specs.Prelude.{int_lt}
 use Rattle.std.specs.Result.{IfOk, IsErrOf}
 use lib.Dec.{T, eqb→eq}

@@ -8,4 +8,3 @@ pub mod DecimalShort
 pub mod DecimalDigits
 pub mod Arithmetic
 pub mod Checked
-pub mod Size

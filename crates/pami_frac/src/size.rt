@@ -1,15 +1,15 @@
 //! How large the numbers of a fraction are.
 
-ghost use Rattle.std.specs.Prelude.{◌≡◌, ℕ, ◌<◌, ◌^◌, ◌≤◌, ◌*◌};
-ghost use Rattle.pami_frac.specs.Size.{size, bits, NeedsDigits};
+ghost use Rattle.std.specs.Prelude.{◌≡◌, ℕ, ◌<◌, ◌^◌, ◌≤◌, ◌*◌, nat_abs};
+ghost use Rattle.pami_algebra.specs.Size.{size, bits, NeedsDigits};
 
 use crate::frac::Frac;
 
 /// The count of the binary digits of a number above 0.
 fn digits(n: u128) -> u32
-    requires { 0 < n }
+    requires { (0 < n) × (n < 2 ^ 127) }
     ensures value { result ≡ bits n }
-    ensures small { result ≤ 128 }
+    ensures small { (0 < result) × (result ≤ 127) }
 {
     n.ilog2() + 1
 }
@@ -17,7 +17,8 @@ fn digits(n: u128) -> u32
 impl Frac {
     /// The binary digits of the numerator, without its sign, less those of the denominator; -127 for 0.
     pub fn size(&self) -> i32
-        ensures { result ≡ size self.now }
+        ensures value { result ≡ size self.now }
+        ensures small { nat_abs result ≤ 127 }
     {
         if self.is_zero() {
             return -127;

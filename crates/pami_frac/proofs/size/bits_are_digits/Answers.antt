@@ -1,4 +1,4 @@
-use Rattle.pami_frac.specs.Size.{bits}
+use Rattle.pami_algebra.specs.Size.{bits}
 use Rattle.pami_frac.proofs.Digits.{bits_need, only_digits}
 use Rattle.pami_frac.proofs.size.bits_are_digits.Goals as goal
 

@@ -2,7 +2,7 @@
 use Rattle.std.specs.Prelude.{ℕ, ◌*◌, ◌/◌, ◌^◌, ◌<◌, ◌≤◌, zero, suc, cond}
 use lib.IntN.{ℤ, pos, negsuc, ◌-ℤ◌, nat_abs}
 use Rattle.pami_algebra.specs.Fraction.{Fraction}
-use Rattle.pami_frac.specs.Signs.{is_zero}
+use Rattle.pami_algebra.specs.Operations.{is_zero}
 
 -- how often a number can be halved before it is 0, with `k` halvings at most
 abbrev pub halvings : ℕ → ℕ → ℕ
