@@ -1,2 +1,17 @@
 pub mod Sums
 pub mod Units
+pub mod Systems
+pub mod Parts
+pub mod Pivoted
+pub mod Pivots
+pub mod Unique
+pub mod Steps
+pub mod Moves
+pub mod Ends
+pub mod Chains
+pub mod Solutions
+pub mod Regular
+pub mod Permutations
+pub mod Left
+pub mod Products
+pub mod Lists

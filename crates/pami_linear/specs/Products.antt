@@ -1,0 +1,36 @@
+-- The product form: the columns of a basis after some pivots, and the solves that go through these pivots.
+use Rattle.std.specs.Prelude.{◌≡◌, ℕ, ◌<◌, true, List, [], ◌∷◌}
+use lib.IntN.{pos}
+use Rattle.pami_algebra.specs.Fraction.{Fraction}
+use Rattle.pami_algebra.specs.Operations.{◌*ᶠ◌, ◌/ᶠ◌, of_int}
+use Rattle.pami_linear.specs.Systems.{Solves, replaced, stepped}
+use Rattle.pami_linear.specs.Active.{minus_to, but, set_at}
+
+-- one pivot: the column at a place is replaced, and by the columns before it the new one is `column`, by place
+pub record ProductPivot : Type 0 where
+  pub place : ℕ
+  pub column : ℕ → Fraction
+
+-- the columns c are those of b after the pivots, the first one first; none of them is 0 at its place
+pub data IsAfter (m : ℕ) : List ProductPivot → (ℕ → ℕ → Fraction) → (ℕ → ℕ → Fraction) → Type 0 where
+  unchanged : (b : ℕ → ℕ → Fraction) → IsAfter m [] b b
+  pivoted : (e : ProductPivot) (es : List ProductPivot) (b c : ℕ → ℕ → Fraction) (new : ℕ → Fraction) → e.place < m → ¬ (e.column e.place ≡ of_int (pos 0)) →
+      Solves m b e.column new → IsAfter m es (replaced b e.place new) c → IsAfter m (e ∷ es) b c
+
+-- a solution, by place, through one pivot: the quotient at its place, and the others less its multiple
+abbrev pub transformed : ProductPivot → (ℕ → Fraction) → ℕ → Fraction
+transformed e x = stepped e.place e.column (x e.place /ᶠ e.column e.place) x
+
+-- through all pivots, the first one first
+abbrev pub transformed_by : List ProductPivot → (ℕ → Fraction) → ℕ → Fraction
+transformed_by [] x = x
+transformed_by (e ∷ es) x = transformed_by es (transformed e x)
+
+-- the right side d of a backward solve, by place, through one pivot: only the member at its place changes
+abbrev pub gathered : ℕ → ProductPivot → (ℕ → Fraction) → ℕ → Fraction
+gathered m e d = set_at e.place (minus_to m (but e.place (λ k. true)) (λ k. d k *ᶠ e.column k) (d e.place) /ᶠ e.column e.place) d
+
+-- through all pivots, the last one first
+abbrev pub gathered_by : ℕ → List ProductPivot → (ℕ → Fraction) → ℕ → Fraction
+gathered_by m [] d = d
+gathered_by m (e ∷ es) d = gathered m e (gathered_by m es d)
