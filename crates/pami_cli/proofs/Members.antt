@@ -1,5 +1,5 @@
 -- Members of lists by their places, and lists of which some or no member passes a test.
-use Rattle.std.proofs.Common.{◌≡◌, ℕ, zero, suc, ◌-◌, ◌<◌, ◌||◌, Bool, true, false, List, [], ◌∷◌, length, All, refl, sym, ap, ◌∙◌, subst, arith, nat_eq}
+use Rattle.std.proofs.Common.{◌≡◌, ℕ, zero, suc, ◌-◌, ◌<◌, ◌||◌, Bool, true, false, List, [], ◌∷◌, length, All, map, slice_index_or, refl, sym, ap, ◌∙◌, subst, arith, nat_eq}
 use Rattle.std.proofs.lemmas.Bool.{cond-false, ne_eqb}
 use Rattle.std.specs.List.{list_any}
 use Rattle.pami_cli.specs.Form.{member}
@@ -14,6 +14,12 @@ pub member_all : {X A : Type 0} (P : A → Type 0) (f : X → A) (d : A) (xs : L
 member_all P f d [] h i l = absurd (omega arith)
 member_all P f d (x ∷ xs) h zero l = h 0 x (omega arith)
 member_all P f d (x ∷ xs) h (suc i) l = subst P (sym (member_next f d x xs i)) (member_all P f d xs (λ k e m. h (suc k) e (omega arith)) i (omega arith))
+
+-- a member is what is read of the mapped list
+pub get_mapped : {X A : Type 0} (f : X → A) (d e : A) (xs : List X) (i : ℕ) → i < length xs → slice_index_or (map f xs) i e ≡ member f d xs i
+get_mapped f d e [] i l = absurd (omega arith)
+get_mapped f d e (x ∷ xs) zero l = refl
+get_mapped f d e (x ∷ xs) (suc i) l = get_mapped f d e xs i (omega arith) ∙ sym (member_next f d x xs i)
 
 neither : (a b : Bool) → (a || b) ≡ false → (a ≡ false) × (b ≡ false)
 neither true b e = absurd (cc)

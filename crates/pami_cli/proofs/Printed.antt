@@ -31,7 +31,7 @@ row_values c = valued_from (length c.columns) (names_of_rows c.rows) (λ v. zero
 
 zero_columns : (c : Contents) → IsSmall c → map (valued_line (codes "x")) (column_values c) ≡ map (λ (column : Column). valued_line (codes "x") (zero_column column)) c.columns
 zero_columns c small =
-    ap (map (valued_line (codes "x"))) (valued_columns c.columns 0 (cost_of (form_of c)) (λ i l. let e : 0 + i ≡ i = omega arith in ap (cost_of (form_of c)) e ∙ cost_of_column (form_of c) i l ∙ cost_of_small c small i))
+    ap (map (valued_line (codes "x"))) (valued_columns c.columns 0 (cost_of (form_of c)) (λ i l. let e : 0 + i ≡ i = omega arith in ap (cost_of (form_of c)) e ∙ cost_of_column (form_of c) i l ∙ cost_of_small c small i l))
     ∙ column_lines c.columns
 
 zero_rows : (c : Contents) → map (valued_line (codes "r")) (row_values c) ≡ map (λ (row : Row). valued_line (codes "r") (zero_row row)) c.rows

@@ -1,6 +1,6 @@
 -- What a call has to write, and that it is one text.
 use Rattle.std.proofs.lemmas.List.{length-replicate}
-use Rattle.std.proofs.Common.{suc, ◌≡◌, ℕ, ◌+◌, ◌<◌, ◌≤◌, ◌⊎◌, inl, inr, List, length, Option, None, Some, Result, Ok, Err, refl, sym, ap, ◌∙◌, subst, arith, replicate}
+use Rattle.std.proofs.Common.{suc, ◌≡◌, ℕ, ◌<◌, ◌⊎◌, inl, inr, List, length, Option, None, Some, Result, Ok, Err, refl, sym, ap, ◌∙◌, subst, arith, replicate}
 use Rattle.std.specs.Result.{IfOk}
 use Rattle.pami_frac.specs.declared.fault.OutOfMemory.{OutOfMemory}
 use Rattle.pami_edge.specs.Outside.{Files, HasFile, HasLongFile, Rose, Grows}

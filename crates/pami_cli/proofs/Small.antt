@@ -1,7 +1,6 @@
 -- The starting basis of models of the small profile.
-use Rattle.std.proofs.Common.{◌≡◌, ℕ, ◌+◌, ◌-◌, ◌<◌, ◌⊎◌, inl, inr, ⊎_elim, List, [], ◌∷◌, ◌++◌, ◌||◌, ◌&&◌, not, Bool, true, false, Option, None, Some, length, codes, refl, sym, ap, ◌∙◌, ◌↔◌, subst, arith, true≢false, nat_lt}
+use Rattle.std.proofs.Common.{◌≡◌, ℕ, ◌+◌, ◌-◌, ◌<◌, ◌⊎◌, inl, inr, ⊎_elim, List, [], ◌∷◌, ◌++◌, ◌||◌, ◌&&◌, not, Bool, true, false, Option, None, Some, length, map, slice_index_or, codes, refl, sym, ap, ◌∙◌, ◌↔◌, subst, arith, true≢false}
 use Rattle.std.specs.List.{list_any}
-use Rattle.std.proofs.lemmas.Bool.{cond-true, cond-false, lt-ltb, le-ltb}
 use Rattle.pami_algebra.specs.Fraction.{Fraction}
 use Rattle.pami_algebra.specs.Operations.{◌+ᶠ◌, ◌≤ᶠ◌, ◌<ᶠ◌}
 use Rattle.pami_algebra.proofs.Strict.{le_by_not_f, lt_by_other_f, lt_asymm_f, lt_irrefl_f, not_le_f}
@@ -10,12 +9,13 @@ use Rattle.pami_frac.proofs.Signs.{negative_means, zero_means}
 use Rattle.pami_model.specs.declared.list.Row.{Row}
 use Rattle.pami_model.specs.declared.list.Column.{Column}
 use Rattle.pami_model.specs.declared.model.Sense.{Sense}
+use Rattle.pami_model.specs.declared.model.Sense.TheVariants.{Min}
 use Rattle.pami_model.specs.Draft.{nonnegative}
 use Rattle.pami_model.specs.Contents.{Contents}
 use Rattle.pami_model.specs.Rules.{names_of_rows, names_of_columns}
 use Rattle.pami_linear.proofs.Sums.{dot_same}
-use Rattle.std.proofs.lemmas.List.{length-map}
-use Rattle.pami_theory.specs.Form.{Limits, cost_of, zero_f, IsWithin}
+use Rattle.std.proofs.lemmas.List.{length-map, get_or_append_left, get_or-append_right}
+use Rattle.pami_theory.specs.Form.{Limits, limits, cost, cost_of, zero_f, IsWithin}
 use Rattle.pami_theory.specs.Fresh.{IsOutside}
 use Rattle.pami_theory.specs.Start.{IsStandard}
 use Rattle.pami_theory.specs.Certificate.{objective_of}
@@ -24,24 +24,40 @@ use Rattle.pami_theory.proofs.Certificates.{within_by_not_outside, within_not_ou
 use Rattle.pami_theory.proofs.Standard.{standard_values, standard_dual_feasible, standard_infeasible, standard_optimal, CostsNonnegative}
 use Rattle.pami_text.specs.Line.{text}
 use Rattle.pami_text.specs.Answer.{Valued, Optimal, valued_from, optimal_lines, head_lines, phase_line}
-use Rattle.pami_cli.specs.Form.{form_of, member, limits_by, limits_of, unlimited, minimised, file_cost}
+use Rattle.pami_cli.specs.Form.{form_of, member, limits_by, minimised, file_cost}
 use Rattle.pami_cli.specs.Small.{IsSmall, is_above_zero, is_below_zero, excludes_zero}
 use Rattle.pami_cli.specs.Start.{StartsDualFeasible, StartsInfeasible, AnswersOptimal, AnswersLimit, AnswersPhaseOne}
 use Rattle.pami_cli.specs.Text.{counts_of, start_line, optimal_text, limit_text, phase_one_text}
-use Rattle.pami_cli.proofs.Members.{PassesAt, member_all, any_at, none_at}
+use Rattle.pami_cli.proofs.Members.{PassesAt, member_all, get_mapped, any_at, none_at}
 use Rattle.pami_cli.proofs.Certificates.{valued_same}
 
 -- ---- the form
-pub limits_of_column : (c : Contents) (j : ℕ) → j < length c.columns → limits_of c j ≡ member (λ (column : Column). limits_by column.bounds) unlimited c.columns j
-limits_of_column c j l = cond-true (nat_lt j (length c.columns)) _ _ (lt-ltb j (length c.columns) l)
+abbrev pub unlimited : Limits
+unlimited = record { low = None; high = None }
 
-pub limits_of_row : (c : Contents) (i : ℕ) → limits_of c (length c.columns + i) ≡ member (λ (row : Row). limits_by row.bounds) unlimited c.rows i
-limits_of_row c i =
-    let n = length c.columns in
+-- the bounds of a model's column and of its row; past the end none
+abbrev pub column_bounds : Contents → ℕ → Limits
+column_bounds c j = member (λ (column : Column). limits_by column.bounds) unlimited c.columns j
+
+abbrev pub row_bounds : Contents → ℕ → Limits
+row_bounds c i = member (λ (row : Row). limits_by row.bounds) unlimited c.rows i
+
+pub limits_of_column : (c : Contents) (j : ℕ) → j < length c.columns → limits (form_of c) j ≡ column_bounds c j
+limits_of_column c j l =
+    let columns : List Limits = map (λ (column : Column). limits_by column.bounds) c.columns in
+    get_or_append_left columns (map (λ (row : Row). limits_by row.bounds) c.rows) unlimited j (omega (arith, l, length-map c.columns (λ (column : Column). limits_by column.bounds)))
+    ∙ get_mapped (λ (column : Column). limits_by column.bounds) unlimited unlimited c.columns j l
+
+pub limits_of_row : (c : Contents) (i : ℕ) → i < length c.rows → limits (form_of c) (length c.columns + i) ≡ row_bounds c i
+limits_of_row c i l =
+    let n : ℕ = length c.columns in
     let e : n + i - n ≡ i = omega arith in
-    cond-false (nat_lt (n + i) n) _ _ (le-ltb (n + i) n (omega arith)) ∙ ap (member (λ (row : Row). limits_by row.bounds) unlimited c.rows) e
+    get_or-append_right (map (λ (column : Column). limits_by column.bounds) c.columns) (map (λ (row : Row). limits_by row.bounds) c.rows) n (n + i) unlimited
+    (length-map c.columns (λ (column : Column). limits_by column.bounds)) (omega arith)
+    ∙ ap (λ k. slice_index_or (map (λ (row : Row). limits_by row.bounds) c.rows) k unlimited) e
+    ∙ get_mapped (λ (row : Row). limits_by row.bounds) unlimited unlimited c.rows i l
 
-column_limits : (c : Contents) → IsSmall c → (j : ℕ) → j < length c.columns → limits_of c j ≡ limits_by nonnegative
+column_limits : (c : Contents) → IsSmall c → (j : ℕ) → j < length c.columns → limits (form_of c) j ≡ limits_by nonnegative
 column_limits c small j l =
     limits_of_column c j l
     ∙ member_all (λ (z : Limits). z ≡ limits_by nonnegative) (λ (column : Column). limits_by column.bounds) unlimited c.columns (λ k e m. ap limits_by (small.nonnegative_columns k e m)) j l
@@ -52,8 +68,14 @@ standard_of c small = record {
   high = λ j l. ap (λ (z : Limits). z.high) (column_limits c small j l);
 }
 
-pub cost_of_small : (c : Contents) → IsSmall c → (j : ℕ) → (form_of c).cost j ≡ file_cost c j
-cost_of_small c small j = ap (λ (s : Sense). minimised s (file_cost c j)) small.minimised
+-- the cost of a column, as it is minimised
+minimised_member : (s : Sense) (columns : List Column) (j : ℕ) → s ≡ Min → member (λ (column : Column). minimised s column.cost) zero_f columns j ≡ member (λ (column : Column). column.cost) zero_f columns j
+minimised_member s columns j e = ap (λ (z : Sense). member (λ (column : Column). minimised z column.cost) zero_f columns j) e
+
+pub cost_of_small : (c : Contents) → IsSmall c → (j : ℕ) → j < length c.columns → cost (form_of c) j ≡ file_cost c j
+cost_of_small c small j l =
+    get_mapped (λ (column : Column). minimised c.sense column.cost) zero_f zero_f c.columns j l
+    ∙ minimised_member c.sense c.columns j small.minimised
 
 -- ---- signs
 neither_not : (a b : Bool) → (not a && not b) ≡ true → (a ≡ false) × (b ≡ false)
@@ -82,11 +104,11 @@ pub negative_cost : (c : Contents) → IsSmall c → list_any (λ (k : Column). 
 negative_cost c small e h =
     let t : PassesAt is_negative (λ (k : Column). k.cost) zero_f c.columns = any_at is_negative (λ (k : Column). k.cost) zero_f c.columns e in
     not_le_f (file_cost c t.0) zero_f ((negative_means (file_cost c t.0)).0 t.2)
-    (subst (λ z. zero_f ≤ᶠ z) (cost_of_small c small t.0) ((standard_dual_feasible (form_of c) (standard_of c small)).0 h t.0 t.1))
+    (subst (λ z. zero_f ≤ᶠ z) (cost_of_small c small t.0 t.1) ((standard_dual_feasible (form_of c) (standard_of c small)).0 h t.0 t.1))
 
 costs_nonnegative : (c : Contents) → IsSmall c → list_any (λ (k : Column). is_negative k.cost) c.columns ≡ false → CostsNonnegative (form_of c)
 costs_nonnegative c small e j l =
-    subst (λ z. zero_f ≤ᶠ z) (sym (cost_of_small c small j))
+    subst (λ z. zero_f ≤ᶠ z) (sym (cost_of_small c small j l))
     (le_by_not_f zero_f (file_cost c j) (λ k. true≢false (sym ((negative_means (file_cost c j)).1 k) ∙ none_at is_negative (λ (column : Column). column.cost) zero_f c.columns e j l)))
 
 pub no_negative_cost : (c : Contents) → IsSmall c → list_any (λ (k : Column). is_negative k.cost) c.columns ≡ false → StartsDualFeasible c
@@ -133,7 +155,7 @@ pub infeasible_row : (c : Contents) → IsSmall c → list_any (λ (r : Row). ex
 infeasible_row c small e =
     let s : IsStandard (form_of c) = standard_of c small in
     let t : PassesAt excludes (λ (r : Row). limits_by r.bounds) unlimited c.rows = any_at excludes (λ (r : Row). limits_by r.bounds) unlimited c.rows e in
-    let o : IsOutside (limits_of c (length c.columns + t.0)) zero_f = subst (λ l. IsOutside l zero_f) (sym (limits_of_row c t.0)) (excludes_in (member (λ (r : Row). limits_by r.bounds) unlimited c.rows t.0) t.2) in
+    let o : IsOutside (limits (form_of c) (length c.columns + t.0)) zero_f = subst (λ l. IsOutside l zero_f) (sym (limits_of_row c t.0 t.1)) (excludes_in (row_bounds c t.0) t.2) in
     record {
       x = λ v. zero_f;
       values = standard_values (form_of c) s;
@@ -141,15 +163,15 @@ infeasible_row c small e =
     }
 
 -- the bounds of each row let 0 in
-pub row_within : (c : Contents) → list_any (λ (r : Row). excludes_zero r.bounds) c.rows ≡ false → (i : ℕ) → i < length c.rows → IsWithin (limits_of c (length c.columns + i)) zero_f
-row_within c e i l = within_by_not_outside (limits_of c (length c.columns + i)) zero_f
-    (λ o. true≢false (sym (excludes_out (member (λ (r : Row). limits_by r.bounds) unlimited c.rows i) (subst (λ z. IsOutside z zero_f) (limits_of_row c i) o)) ∙ none_at excludes (λ (r : Row). limits_by r.bounds) unlimited c.rows e i l))
+pub row_within : (c : Contents) → list_any (λ (r : Row). excludes_zero r.bounds) c.rows ≡ false → (i : ℕ) → i < length c.rows → IsWithin (limits (form_of c) (length c.columns + i)) zero_f
+row_within c e i l = within_by_not_outside (limits (form_of c) (length c.columns + i)) zero_f
+    (λ o. true≢false (sym (excludes_out (row_bounds c i) (subst (λ z. IsOutside z zero_f) (limits_of_row c i l) o)) ∙ none_at excludes (λ (r : Row). limits_by r.bounds) unlimited c.rows e i l))
 
 pub no_infeasible_row : (c : Contents) → IsSmall c → list_any (λ (r : Row). excludes_zero r.bounds) c.rows ≡ false → ¬ StartsInfeasible c
 no_infeasible_row c small e h =
     let p : ℕ = h.infeasible.0 in
     let l : p < length c.rows = h.infeasible.1 in
-    within_not_outside (limits_of c (length c.columns + p)) zero_f (row_within c e p l)
+    within_not_outside (limits (form_of c) (length c.columns + p)) zero_f (row_within c e p l)
     ((standard_infeasible (form_of c) h.x (standard_of c small) h.values p l).0 h.infeasible.2)
 
 -- ---- the answers

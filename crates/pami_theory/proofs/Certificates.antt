@@ -6,14 +6,14 @@ use Rattle.pami_algebra.specs.Operations.{◌-ᶠ◌, ◌≤ᶠ◌, ◌<ᶠ◌}
 use Rattle.pami_algebra.proofs.Order.{le_refl_f}
 use Rattle.pami_algebra.proofs.Strict.{lt_or_le_f, le_by_not_f, not_le_f, lt_irrefl_f}
 use Rattle.pami_linear.specs.Sums.{dot}
-use Rattle.pami_theory.specs.Form.{Form, Limits, variables, row_variable, coefficient, cost_of, zero_f, IsWithin, IsUncrossed}
-use Rattle.pami_theory.specs.Basis.{Stand, Basic, Lower, Upper, Zero, Basis, StandsAt, IsBasis}
+use Rattle.pami_theory.specs.Form.{Form, Limits, limits, entry, cost, variables, row_variable, coefficient, cost_of, zero_f, IsWithin, IsUncrossed}
+use Rattle.pami_theory.specs.Basis.{Stand, Basic, Lower, Upper, Zero, Basis, head_at, stand_at, StandsAt, IsBasis}
 use Rattle.pami_theory.specs.Fresh.{AreValues, AreReducedCosts, IsFixed, IsSignedFor, IsDualFeasible, IsOutside, HasInfeasible}
-use Rattle.pami_theory.specs.Start.{starting_stand, starting_basis}
+use Rattle.pami_theory.specs.Start.{starting_basis}
 use Rattle.pami_theory.specs.Certificate.{IsComplementary, HoldsOptimal}
 use Rattle.pami_linear.proofs.Sums.{dot_same}
 use Rattle.pami_theory.proofs.Forms.{by_variable, cost_of_column, dot_column}
-use Rattle.pami_theory.proofs.Starts.{start_is_basis, row_cost, basic_cost, start_costs, start_row}
+use Rattle.pami_theory.proofs.Starts.{start_is_basis, row_cost, basic_cost, start_costs, start_row, start_stand}
 use Rattle.pami_theory.proofs.Signs.{start_signed, dual_feasible_columns, fixed_or_not}
 
 -- ---- options
@@ -111,7 +111,7 @@ complementary_at_stand l s value d n g h = ⊎_elim
     (fixed_or_not l)
 
 -- ---- basic or not
-basic_or_not : (s : Stand) → (s ≡ Basic) ⊎ (¬ (s ≡ Basic))
+pub basic_or_not : (s : Stand) → (s ≡ Basic) ⊎ (¬ (s ≡ Basic))
 basic_or_not Basic = inl refl
 basic_or_not Lower = inr (λ e. lower e)
   where
@@ -128,32 +128,32 @@ basic_or_not Zero = inr (λ e. nil e)
 
 -- nonbasic variables have bounds in order
 abbrev pub NonbasicUncrossed : Form → Basis → Type 0
-NonbasicUncrossed f b = (v : ℕ) → v < variables f → ¬ (b.stand v ≡ Basic) → IsUncrossed (f.limits v)
+NonbasicUncrossed f b = (v : ℕ) → v < variables f → ¬ (stand_at b v ≡ Basic) → IsUncrossed (limits f v)
 
 abbrev pub NonbasicSigned : Form → Basis → (ℕ → Fraction) → Type 0
-NonbasicSigned f b d = (v : ℕ) → v < variables f → ¬ IsFixed (f.limits v) → IsSignedFor (b.stand v) (d v)
+NonbasicSigned f b d = (v : ℕ) → v < variables f → ¬ IsFixed (limits f v) → IsSignedFor (stand_at b v) (d v)
 
 -- ---- the certificate of any basis
-basis_within : (f : Form) (b : Basis) (x : ℕ → Fraction) → IsBasis f b → AreValues f b x → ¬ HasInfeasible f b x → NonbasicUncrossed f b → (v : ℕ) → v < variables f → IsWithin (f.limits v) (x v)
+basis_within : (f : Form) (b : Basis) (x : ℕ → Fraction) → IsBasis f b → AreValues f b x → ¬ HasInfeasible f b x → NonbasicUncrossed f b → (v : ℕ) → v < variables f → IsWithin (limits f v) (x v)
 basis_within f b x s h n u v l = ⊎_elim
-    (λ (e : b.stand v ≡ Basic). let p = s.placed v l e in
-    subst (λ w. IsWithin (f.limits w) (x w)) p.2 (within_by_not_outside (f.limits (b.head p.0)) (x (b.head p.0)) (λ o. n (p.0, p.1, o))))
-    (λ (e : ¬ (b.stand v ≡ Basic)). within_at_stand (f.limits v) (b.stand v) (x v) e (u v l e) (h.nonbasic v l))
-    (basic_or_not (b.stand v))
+    (λ (e : stand_at b v ≡ Basic). let p = s.placed v l e in
+    subst (λ w. IsWithin (limits f w) (x w)) p.2 (within_by_not_outside (limits f (head_at b p.0)) (x (head_at b p.0)) (λ o. n (p.0, p.1, o))))
+    (λ (e : ¬ (stand_at b v ≡ Basic)). within_at_stand (limits f v) (stand_at b v) (x v) e (u v l e) (h.nonbasic v l))
+    (basic_or_not (stand_at b v))
 
-basis_complementary : (f : Form) (b : Basis) (x y d : ℕ → Fraction) → IsBasis f b → AreValues f b x → AreReducedCosts f b y d → NonbasicSigned f b d → (v : ℕ) → v < variables f → IsComplementary (f.limits v) (x v) (d v)
+basis_complementary : (f : Form) (b : Basis) (x y d : ℕ → Fraction) → IsBasis f b → AreValues f b x → AreReducedCosts f b y d → NonbasicSigned f b d → (v : ℕ) → v < variables f → IsComplementary (limits f v) (x v) (d v)
 basis_complementary f b x y d s h c g v l = ⊎_elim
-    (λ (e : b.stand v ≡ Basic). let p = s.placed v l e in
-    complementary_zero (f.limits v) (x v) (d v) (ap d (sym p.2) ∙ basic_cost f b y d s c p.0 p.1))
-    (λ (e : ¬ (b.stand v ≡ Basic)). complementary_at_stand (f.limits v) (b.stand v) (x v) (d v) e (g v l) (h.nonbasic v l))
-    (basic_or_not (b.stand v))
+    (λ (e : stand_at b v ≡ Basic). let p = s.placed v l e in
+    complementary_zero (limits f v) (x v) (d v) (ap d (sym p.2) ∙ basic_cost f b y d s c p.0 p.1))
+    (λ (e : ¬ (stand_at b v ≡ Basic)). complementary_at_stand (limits f v) (stand_at b v) (x v) (d v) e (g v l) (h.nonbasic v l))
+    (basic_or_not (stand_at b v))
 
 -- d = c - y A with the y read off the row variables
-pub reduced_by_rows : (f : Form) (b : Basis) (y d : ℕ → Fraction) → AreReducedCosts f b y d → (j : ℕ) → j < f.columns → d j ≡ f.cost j -ᶠ dot f.rows (λ i. d (row_variable f i)) (λ i. f.entry i j)
+pub reduced_by_rows : (f : Form) (b : Basis) (y d : ℕ → Fraction) → AreReducedCosts f b y d → (j : ℕ) → j < f.columns → d j ≡ cost f j -ᶠ dot f.rows (λ i. d (row_variable f i)) (λ i. entry f i j)
 reduced_by_rows f b y d c j l =
     c.reduced j (omega arith)
     ∙ ap (λ z. z -ᶠ dot f.rows y (coefficient f j)) (cost_of_column f j l)
-    ∙ ap (λ z. f.cost j -ᶠ z) (dot_column f y j l ∙ dot_same f.rows y (λ i. f.entry i j) (λ i. d (row_variable f i)) (λ i. f.entry i j) (λ i k. sym (row_cost f b y d c i k)) (λ i k. refl))
+    ∙ ap (λ z. cost f j -ᶠ z) (dot_column f y j l ∙ dot_same f.rows y (λ i. entry f i j) (λ i. d (row_variable f i)) (λ i. entry f i j) (λ i k. sym (row_cost f b y d c i k)) (λ i k. refl))
 
 pub certificate : (f : Form) (b : Basis) (x y d : ℕ → Fraction) → IsBasis f b → AreValues f b x → AreReducedCosts f b y d → NonbasicSigned f b d → ¬ HasInfeasible f b x → NonbasicUncrossed f b → HoldsOptimal f x d
 certificate f b x y d s h c g n u = record {
@@ -164,10 +164,12 @@ certificate f b x y d s h c g n u = record {
 
 -- ---- at the start
 abbrev pub ColumnsUncrossed : Form → Type 0
-ColumnsUncrossed f = (j : ℕ) → j < f.columns → IsUncrossed (f.limits j)
+ColumnsUncrossed f = (j : ℕ) → j < f.columns → IsUncrossed (limits f j)
 
 start_uncrossed : (f : Form) → ColumnsUncrossed f → NonbasicUncrossed f (starting_basis f)
-start_uncrossed f u = by_variable f (λ v. ¬ (starting_stand f v ≡ Basic) → IsUncrossed (f.limits v)) (λ j l n. u j l) (λ i l n. absurd (n (start_row f i)))
+start_uncrossed f u = by_variable f (λ v. ¬ (stand_at (starting_basis f) v ≡ Basic) → IsUncrossed (limits f v))
+    (λ j l n. u j l)
+    (λ i l n. absurd (n (start_stand f (row_variable f i) (omega arith) ∙ start_row f i)))
 
 pub certificate_at_start : (f : Form) (x : ℕ → Fraction) → AreValues f (starting_basis f) x → IsDualFeasible f (starting_basis f) → ¬ HasInfeasible f (starting_basis f) x → ColumnsUncrossed f → HoldsOptimal f x (cost_of f)
 certificate_at_start f x h g n u =

@@ -9,7 +9,7 @@ use Rattle.pami_algebra.proofs.Laws.{by_ring_f}
 use Rattle.pami_algebra.proofs.Field.{sub_zero_f, neg_nil_f}
 use Rattle.pami_linear.specs.Sums.{sum_to, dot, unit}
 use Rattle.pami_linear.proofs.Sums.{sum_same, sum_append, dot_same, unit_same, unit_other}
-use Rattle.pami_theory.specs.Form.{Form, variables, row_variable, coefficient, cost_of, IsPoint, zero_f}
+use Rattle.pami_theory.specs.Form.{Form, entry, cost, variables, row_variable, coefficient, cost_of, IsPoint, zero_f}
 use Rattle.pami_linear.proofs.Units.{dot_neg_unit, unit_swap}
 
 -- ---- a variable is a column or the row variable of a row
@@ -20,8 +20,8 @@ by_variable f P column row v l = ⊎_elim
     (cases_lt v f.columns)
 
 -- ---- coefficients
-pub coefficient_column : (f : Form) (j i : ℕ) → j < f.columns → coefficient f j i ≡ f.entry i j
-coefficient_column f j i l = cond-true (nat_lt j f.columns) (f.entry i j) _ (lt-ltb j f.columns l)
+pub coefficient_column : (f : Form) (j i : ℕ) → j < f.columns → coefficient f j i ≡ entry f i j
+coefficient_column f j i l = cond-true (nat_lt j f.columns) (entry f i j) _ (lt-ltb j f.columns l)
 
 own_row : (k i : ℕ) → (if nat_eq k i then neg_f (of_int (pos 1)) else zero_f) ≡ neg_f (unit k i)
 own_row k i = ⊎_elim
@@ -38,42 +38,42 @@ coefficient_row f k i =
     ∙ own_row k i
 
 -- ---- costs
-pub cost_of_column : (f : Form) (j : ℕ) → j < f.columns → cost_of f j ≡ f.cost j
-cost_of_column f j l = cond-true (nat_lt j f.columns) (f.cost j) zero_f (lt-ltb j f.columns l)
+pub cost_of_column : (f : Form) (j : ℕ) → j < f.columns → cost_of f j ≡ cost f j
+cost_of_column f j l = cond-true (nat_lt j f.columns) (cost f j) zero_f (lt-ltb j f.columns l)
 
 pub cost_of_row : (f : Form) (i : ℕ) → cost_of f (row_variable f i) ≡ zero_f
-cost_of_row f i = let v = f.columns + i in cond-false (nat_lt v f.columns) (f.cost v) zero_f (le-ltb v f.columns (omega arith))
+cost_of_row f i = let v = f.columns + i in cond-false (nat_lt v f.columns) (cost f v) zero_f (le-ltb v f.columns (omega arith))
 
 -- ---- columns of [A, -I] against a vector by row
 pub dot_row_variable : (f : Form) (y : ℕ → Fraction) (i : ℕ) → i < f.rows → dot f.rows y (coefficient f (row_variable f i)) ≡ neg_f (y i)
 dot_row_variable f y i l = dot_same f.rows y (coefficient f (row_variable f i)) y (λ k. neg_f (unit i k)) (λ k h. refl) (λ k h. coefficient_row f i k) ∙ dot_neg_unit f.rows i y l
 
-pub dot_column : (f : Form) (y : ℕ → Fraction) (j : ℕ) → j < f.columns → dot f.rows y (coefficient f j) ≡ dot f.rows y (λ i. f.entry i j)
-dot_column f y j l = dot_same f.rows y (coefficient f j) y (λ i. f.entry i j) (λ i h. refl) (λ i h. coefficient_column f j i l)
+pub dot_column : (f : Form) (y : ℕ → Fraction) (j : ℕ) → j < f.columns → dot f.rows y (coefficient f j) ≡ dot f.rows y (λ i. entry f i j)
+dot_column f y j l = dot_same f.rows y (coefficient f j) y (λ i. entry f i j) (λ i h. refl) (λ i h. coefficient_column f j i l)
 
 -- ---- rows of [A, -I] against values
-pub row_sum : (f : Form) (x : ℕ → Fraction) (i : ℕ) → i < f.rows → dot (variables f) (λ v. coefficient f v i) x ≡ dot f.columns (f.entry i) x -ᶠ x (row_variable f i)
+pub row_sum : (f : Form) (x : ℕ → Fraction) (i : ℕ) → i < f.rows → dot (variables f) (λ v. coefficient f v i) x ≡ dot f.columns (entry f i) x -ᶠ x (row_variable f i)
 row_sum f x i l =
     sum_append f.columns f.rows (λ v. coefficient f v i *ᶠ x v)
     ∙ ap (λ z. z +ᶠ sum_to f.rows (λ k. coefficient f (f.columns + k) i *ᶠ x (f.columns + k)))
-    (sum_same f.columns (λ j. coefficient f j i *ᶠ x j) (λ j. f.entry i j *ᶠ x j) (λ j h. ap (λ z. z *ᶠ x j) (coefficient_column f j i h)))
-    ∙ ap (λ z. dot f.columns (f.entry i) x +ᶠ z)
+    (sum_same f.columns (λ j. coefficient f j i *ᶠ x j) (λ j. entry f i j *ᶠ x j) (λ j h. ap (λ z. z *ᶠ x j) (coefficient_column f j i h)))
+    ∙ ap (λ z. dot f.columns (entry f i) x +ᶠ z)
     (sum_same f.rows (λ k. coefficient f (f.columns + k) i *ᶠ x (f.columns + k)) (λ k. x (f.columns + k) *ᶠ neg_f (unit i k))
     (λ k h. ap (λ z. z *ᶠ x (f.columns + k)) (coefficient_row f k i ∙ ap neg_f (unit_swap k i)) ∙ by_ring_f (unit i k ∷ x (f.columns + k) ∷ []) ((⊖ (var 0)) ⊗ var 1) (var 1 ⊗ ⊖ (var 0)) refl)
     ∙ dot_neg_unit f.rows i (λ k. x (f.columns + k)) l)
 
 -- each row variable has the sum of its row over the columns
 abbrev pub RowsAreSums : Form → (ℕ → Fraction) → Type 0
-RowsAreSums f x = (i : ℕ) → i < f.rows → x (row_variable f i) ≡ dot f.columns (f.entry i) x
+RowsAreSums f x = (i : ℕ) → i < f.rows → x (row_variable f i) ≡ dot f.columns (entry f i) x
 
 pub point_rows : (f : Form) (x : ℕ → Fraction) → IsPoint f x → RowsAreSums f x
-point_rows f x h i l = sym (sub_zero_f (dot f.columns (f.entry i) x) (x (row_variable f i)) (sym (row_sum f x i l) ∙ h.at i l))
+point_rows f x h i l = sym (sub_zero_f (dot f.columns (entry f i) x) (x (row_variable f i)) (sym (row_sum f x i l) ∙ h.at i l))
 
 pub rows_point : (f : Form) (x : ℕ → Fraction) → RowsAreSums f x → IsPoint f x
 rows_point f x h = record {
   at = λ i l. row_sum f x i l
-      ∙ ap (λ z. dot f.columns (f.entry i) x -ᶠ z) (h i l)
-      ∙ by_ring_f (dot f.columns (f.entry i) x ∷ []) (var 0 ⊕ ⊖ (var 0)) t0 refl;
+      ∙ ap (λ z. dot f.columns (entry f i) x -ᶠ z) (h i l)
+      ∙ by_ring_f (dot f.columns (entry f i) x ∷ []) (var 0 ⊕ ⊖ (var 0)) t0 refl;
 }
 
 pub point_by_rows : (f : Form) (x : ℕ → Fraction) → IsPoint f x ↔ RowsAreSums f x

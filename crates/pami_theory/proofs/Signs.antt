@@ -10,28 +10,34 @@ use Rattle.pami_algebra.specs.Operations.{◌-ᶠ◌, ◌≤ᶠ◌, ◌<ᶠ◌, 
 use Rattle.pami_algebra.proofs.Field.{sub_zero_f, sub_self_f, zero_or_not}
 use Rattle.pami_algebra.proofs.Strict.{le_by_not_f, lt_le_f}
 use Rattle.pami_algebra.proofs.Products.{below_num}
-use Rattle.pami_theory.specs.Form.{Form, Limits, variables, row_variable, cost_of, zero_f}
-use Rattle.pami_theory.specs.Basis.{Lower, Upper}
+use Rattle.pami_theory.specs.Form.{Form, Limits, limits, cost, variables, row_variable, cost_of, zero_f}
+use Rattle.pami_theory.specs.Basis.{Lower, Upper, stand_at}
 use Rattle.pami_theory.specs.Fresh.{IsFixed, IsSignedFor, IsDualFeasible}
 use Rattle.pami_theory.specs.Start.{is_negative, is_same, boxed_stand, stand_by, starting_stand, starting_basis}
 use Rattle.pami_theory.proofs.Forms.{by_variable, cost_of_column}
-use Rattle.pami_theory.proofs.Starts.{start_row, start_column, start_costs, start_costs_only}
+use Rattle.pami_theory.proofs.Starts.{start_row, start_stand, start_column, start_costs, start_costs_only}
 
 -- ---- dual feasible, exactly
 abbrev pub ColumnsSigned : Form → Type 0
-ColumnsSigned f = (j : ℕ) → j < f.columns → ¬ IsFixed (f.limits j) → IsSignedFor (starting_stand f j) (f.cost j)
+ColumnsSigned f = (j : ℕ) → j < f.columns → ¬ IsFixed (limits f j) → IsSignedFor (starting_stand f j) (cost f j)
 
 pub dual_feasible_columns : (f : Form) → IsDualFeasible f (starting_basis f) → ColumnsSigned f
 dual_feasible_columns f h j l n =
-    subst (IsSignedFor (starting_stand f j)) (start_costs_only f h.y h.d h.costs j (omega arith) ∙ cost_of_column f j l) (h.signed j (omega arith) n)
+    let k : j < variables f = omega arith in
+    subst (λ s. IsSignedFor s (cost f j)) (start_stand f j k)
+    (subst (IsSignedFor (stand_at (starting_basis f) j)) (start_costs_only f h.y h.d h.costs j k ∙ cost_of_column f j l) (h.signed j k n))
 
 abbrev pub SignedUnlessFixed : Form → ℕ → Type 0
-SignedUnlessFixed f v = ¬ IsFixed (f.limits v) → IsSignedFor (starting_stand f v) (cost_of f v)
+SignedUnlessFixed f v = ¬ IsFixed (limits f v) → IsSignedFor (starting_stand f v) (cost_of f v)
 
-pub start_signed : (f : Form) → ColumnsSigned f → (v : ℕ) → v < variables f → SignedUnlessFixed f v
-start_signed f h = by_variable f (SignedUnlessFixed f)
+-- at each variable
+signed_start : (f : Form) → ColumnsSigned f → (v : ℕ) → v < variables f → SignedUnlessFixed f v
+signed_start f h = by_variable f (SignedUnlessFixed f)
     (λ j l n. subst (IsSignedFor (starting_stand f j)) (sym (cost_of_column f j l)) (h j l n))
     (λ i l n. subst (λ s. IsSignedFor s (cost_of f (row_variable f i))) (sym (start_row f i)) tt)
+
+pub start_signed : (f : Form) → ColumnsSigned f → (v : ℕ) → v < variables f → ¬ IsFixed (limits f v) → IsSignedFor (stand_at (starting_basis f) v) (cost_of f v)
+start_signed f h v l n = subst (λ s. IsSignedFor s (cost_of f v)) (sym (start_stand f v l)) (signed_start f h v l n)
 
 pub columns_dual_feasible : (f : Form) → ColumnsSigned f → IsDualFeasible f (starting_basis f)
 columns_dual_feasible f h = record { y = λ i. zero_f; d = cost_of f; costs = start_costs f; signed = start_signed f h }
@@ -95,7 +101,7 @@ boxed_signed false cost n = go (is_negative cost) refl
     go false e = not_negative cost e
 
 -- stands where the sign of its cost asks for, unless it is fixed
-pub both_bounds_signed : (f : Form) (j : ℕ) (low high : Fraction) → j < f.columns → (f.limits j).low ≡ Some low → (f.limits j).high ≡ Some high → ¬ IsFixed (f.limits j) → IsSignedFor (starting_stand f j) (f.cost j)
+pub both_bounds_signed : (f : Form) (j : ℕ) (low high : Fraction) → j < f.columns → (limits f j).low ≡ Some low → (limits f j).high ≡ Some high → ¬ IsFixed (limits f j) → IsSignedFor (starting_stand f j) (cost f j)
 both_bounds_signed f j low high l e k n =
-    subst (λ s. IsSignedFor s (f.cost j)) (sym (start_column f j l ∙ ap (λ o. stand_by o (f.limits j).high (f.cost j)) e ∙ ap (λ o. stand_by (Some low) o (f.cost j)) k))
-    (boxed_signed (is_same low high) (f.cost j) (λ t. n (low, e, k ∙ ap Some (sym ((is_same_iff low high).0 t)))))
+    subst (λ s. IsSignedFor s (cost f j)) (sym (start_column f j l ∙ ap (λ o. stand_by o (limits f j).high (cost f j)) e ∙ ap (λ o. stand_by (Some low) o (cost f j)) k))
+    (boxed_signed (is_same low high) (cost f j) (λ t. n (low, e, k ∙ ap Some (sym ((is_same_iff low high).0 t)))))

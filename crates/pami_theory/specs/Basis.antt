@@ -1,7 +1,8 @@
 -- Bases: which variable is basic at each place, and where each other variable stands.
-use Rattle.std.specs.Prelude.{◌≡◌, ℕ, ◌<◌, None, Some}
+use Rattle.std.specs.Prelude.{◌≡◌, ℕ, ◌<◌, List, length, None, Some, slice_index_or}
 use Rattle.pami_algebra.specs.Fraction.{Fraction}
-use Rattle.pami_theory.specs.Form.{Form, Limits, variables, zero_f}
+use Rattle.pami_linear.specs.Systems.{IsRegular}
+use Rattle.pami_theory.specs.Form.{Form, Limits, variables, limits, coefficient, zero_f}
 
 -- in the basis, at the lower or the upper bound, or at 0
 pub data Stand : Type 0 where
@@ -10,10 +11,17 @@ pub data Stand : Type 0 where
   Upper : Stand
   Zero : Stand
 
--- places 0 .. rows-1
 pub record Basis : Type 0 where
-  pub head : ℕ → ℕ  -- the variable at a place
-  pub stand : ℕ → Stand  -- by variable
+  pub head : List ℕ  -- by place: the variable there; places are 0 .. rows-1
+  pub stands : List Stand  -- by variable
+
+-- the variable at a place
+abbrev pub head_at : Basis → ℕ → ℕ
+head_at b p = slice_index_or b.head p 0
+
+-- where a variable stands
+abbrev pub stand_at : Basis → ℕ → Stand
+stand_at b v = slice_index_or b.stands v Zero
 
 -- the bound at which a variable may stand so, and its value there
 abbrev pub StandsAt : Limits → Stand → Fraction → Type 0
@@ -24,8 +32,18 @@ StandsAt l Zero value = (l.low ≡ None) × (l.high ≡ None) × (value ≡ zero
 
 -- distinct variables, Basic exactly at a place, the others at a bound that they have, or at 0 where they have none
 pub record IsBasis (f : Form) (b : Basis) : Type 0 where
-  pub within : (p : ℕ) → p < f.rows → b.head p < variables f
-  pub distinct : (p q : ℕ) → p < f.rows → q < f.rows → b.head p ≡ b.head q → p ≡ q
-  pub basic : (p : ℕ) → p < f.rows → b.stand (b.head p) ≡ Basic
-  pub placed : (v : ℕ) → v < variables f → b.stand v ≡ Basic → (p : ℕ) × (p < f.rows) × (b.head p ≡ v)
-  pub stands : (v : ℕ) → v < variables f → (value : Fraction) × StandsAt (f.limits v) (b.stand v) value
+  pub places : length b.head ≡ f.rows
+  pub variables_stand : length b.stands ≡ variables f
+  pub within : (p : ℕ) → p < f.rows → head_at b p < variables f
+  pub distinct : (p q : ℕ) → p < f.rows → q < f.rows → head_at b p ≡ head_at b q → p ≡ q
+  pub basic : (p : ℕ) → p < f.rows → stand_at b (head_at b p) ≡ Basic
+  pub placed : (v : ℕ) → v < variables f → stand_at b v ≡ Basic → (p : ℕ) × (p < f.rows) × (head_at b p ≡ v)
+  pub stands : (v : ℕ) → v < variables f → (value : Fraction) × StandsAt (limits f v) (stand_at b v) value
+
+-- the basis matrix: the column of the variable at each place, by row
+abbrev pub basis_column : Form → Basis → ℕ → ℕ → Fraction
+basis_column f b p = coefficient f (head_at b p)
+
+-- the basis matrix has an inverse
+abbrev pub IsRegularBasis : Form → Basis → Type 0
+IsRegularBasis f b = IsRegular f.rows (basis_column f b)

@@ -3,3 +3,11 @@ pub mod Basis
 pub mod Fresh
 pub mod Start
 pub mod Certificate
+pub mod Order
+pub mod Violation
+pub mod Ratio
+pub mod Slope
+pub mod Step
+pub mod Weights
+pub mod Choice
+pub mod Boxes

@@ -1,8 +1,9 @@
 -- The starting basis: each row variable at the place of its row, each column at a bound, or at 0 where it has none.
-use Rattle.std.specs.Prelude.{◌≡◌, ℕ, ◌<◌, Bool, false, Option, None, Some, if◌then◌else◌, nat_eq, nat_lt, int_lt}
+use Rattle.std.specs.Prelude.{◌≡◌, ℕ, ◌<◌, Bool, false, map, Option, None, Some, if◌then◌else◌, nat_eq, nat_lt, int_lt}
+use Rattle.std.specs.List.{range_with_len}
 use lib.IntN.{pos}
 use Rattle.pami_algebra.specs.Fraction.{Fraction}
-use Rattle.pami_theory.specs.Form.{Form, row_variable, zero_f}
+use Rattle.pami_theory.specs.Form.{Form, limits, cost, variables, row_variable, zero_f}
 use Rattle.pami_theory.specs.Basis.{Stand, Basic, Lower, Upper, Zero, Basis}
 
 -- below 0
@@ -24,12 +25,15 @@ stand_by None (Some high) cost = Upper
 stand_by (Some low) (Some high) cost = boxed_stand (is_same low high) cost
 
 abbrev pub starting_stand : Form → ℕ → Stand
-starting_stand f v = if nat_lt v f.columns then stand_by (f.limits v).low (f.limits v).high (f.cost v) else Basic
+starting_stand f v = if nat_lt v f.columns then stand_by (limits f v).low (limits f v).high (cost f v) else Basic
 
 abbrev pub starting_basis : Form → Basis
-starting_basis f = record { head = row_variable f; stand = starting_stand f }
+starting_basis f = record {
+  head = map (row_variable f) (range_with_len 0 f.rows);
+  stands = map (starting_stand f) (range_with_len 0 (variables f));
+}
 
 -- every column is bounded by 0 from below and not from above
 pub record IsStandard (f : Form) : Type 0 where
-  pub low : (j : ℕ) → j < f.columns → (f.limits j).low ≡ Some zero_f
-  pub high : (j : ℕ) → j < f.columns → (f.limits j).high ≡ None
+  pub low : (j : ℕ) → j < f.columns → (limits f j).low ≡ Some zero_f
+  pub high : (j : ℕ) → j < f.columns → (limits f j).high ≡ None

@@ -1,5 +1,6 @@
-//! The theory of the dual simplex method over fractions without bound: forms, bases, their values and reduced costs
-//! by the equations that they solve, and what a certificate says of a form.
+//! The theory of the dual simplex method over fractions without bound: forms, bases and what is solved at them, the
+//! ratio walk, the step and what it changes, the choice of rows, the boxes of phase one, and what certificates say of a
+//! form.
 //!
 //! Stands on `pami_linear`. Nothing here runs: each function has an empty body, and its contract is a list of
 //! theorems about the definitions of `specs/`, which speak of no program and no width. The layers above may rely on
@@ -7,6 +8,13 @@
 #![tactic(auto)]
 
 pub mod basis_laws;
+pub mod boxes_laws;
 pub mod certificate_laws;
+pub mod choice_laws;
+pub mod fresh_laws;
+pub mod order_laws;
 pub mod point_laws;
+pub mod ratio_laws;
 pub mod start_laws;
+pub mod step_laws;
+pub mod update_laws;

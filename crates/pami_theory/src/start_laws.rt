@@ -3,7 +3,7 @@
 ghost use Rattle.std.specs.Prelude.{◌≡◌, ◌↔◌, ℕ, ◌<◌, Some, IsTrue};
 ghost use Rattle.pami_algebra.specs.Fraction.{Fraction};
 ghost use Rattle.pami_algebra.specs.Operations.{◌≤ᶠ◌, ◌<ᶠ◌};
-ghost use Rattle.pami_theory.specs.Form.{Form, variables, row_variable, cost_of, zero_f, IsWithin, IsUncrossed};
+ghost use Rattle.pami_theory.specs.Form.{Form, limits, cost, variables, row_variable, cost_of, zero_f, IsWithin, IsUncrossed};
 ghost use Rattle.pami_theory.specs.Basis.{Lower, IsBasis};
 ghost use Rattle.pami_theory.specs.Fresh.{AreValues, AreReducedCosts, IsFixed, IsSignedFor, IsDualFeasible, IsOutside, IsInfeasible, HasInfeasible};
 ghost use Rattle.pami_theory.specs.Start.{is_negative, is_same, starting_stand, starting_basis, IsStandard};
@@ -34,10 +34,10 @@ pub fn start_has_one_point()
 /// which a column with both bounds always has.
 pub fn start_is_dual_feasible_by_costs()
     ensures by_costs { (f : Form) → IsDualFeasible f (starting_basis f)
-        ↔ ((j : ℕ) → j < f.columns → ¬ IsFixed (f.limits j) → IsSignedFor (starting_stand f j) (f.cost j)) }
+        ↔ ((j : ℕ) → j < f.columns → ¬ IsFixed (limits f j) → IsSignedFor (starting_stand f j) (cost f j)) }
     ensures both_bounds { (f : Form) (j : ℕ) (low high : Fraction) → j < f.columns
-        → (f.limits j).low ≡ Some low → (f.limits j).high ≡ Some high
-        → ¬ IsFixed (f.limits j) → IsSignedFor (starting_stand f j) (f.cost j) }
+        → (limits f j).low ≡ Some low → (limits f j).high ≡ Some high
+        → ¬ IsFixed (limits f j) → IsSignedFor (starting_stand f j) (cost f j) }
 {}
 
 /// Where it is dual feasible and no place is infeasible, its values and the costs are a certificate, if the bounds of
@@ -45,7 +45,7 @@ pub fn start_is_dual_feasible_by_costs()
 pub fn start_gives_certificates()
     ensures certificate { (f : Form) (x : ℕ → Fraction)
         → AreValues f (starting_basis f) x → IsDualFeasible f (starting_basis f) → ¬ HasInfeasible f (starting_basis f) x
-        → ((j : ℕ) → j < f.columns → IsUncrossed (f.limits j))
+        → ((j : ℕ) → j < f.columns → IsUncrossed (limits f j))
         → HoldsOptimal f x (cost_of f) }
 {}
 
@@ -55,17 +55,17 @@ pub fn standard_forms_start_at_zero()
     ensures values { (f : Form) → IsStandard f → AreValues f (starting_basis f) (λ v. zero_f) }
     ensures only_values { (f : Form) (x : ℕ → Fraction) → IsStandard f → AreValues f (starting_basis f) x
         → (v : ℕ) → v < variables f → x v ≡ zero_f }
-    ensures uncrossed { (f : Form) → IsStandard f → (j : ℕ) → j < f.columns → IsUncrossed (f.limits j) }
+    ensures uncrossed { (f : Form) → IsStandard f → (j : ℕ) → j < f.columns → IsUncrossed (limits f j) }
 
     // Dual feasible where no cost is below 0; infeasible where the bounds of a row leave 0 out.
     ensures dual_feasible { (f : Form) → IsStandard f → IsDualFeasible f (starting_basis f)
-        ↔ ((j : ℕ) → j < f.columns → zero_f ≤ᶠ f.cost j) }
+        ↔ ((j : ℕ) → j < f.columns → zero_f ≤ᶠ cost f j) }
     ensures infeasible { (f : Form) (x : ℕ → Fraction) → IsStandard f → AreValues f (starting_basis f) x
-        → (p : ℕ) → p < f.rows → IsInfeasible f (starting_basis f) x p ↔ IsOutside (f.limits (row_variable f p)) zero_f }
+        → (p : ℕ) → p < f.rows → IsInfeasible f (starting_basis f) x p ↔ IsOutside (limits f (row_variable f p)) zero_f }
 
     // Where both are well, zeros are optimal, and the objective is its constant.
-    ensures optimal { (f : Form) → IsStandard f → ((j : ℕ) → j < f.columns → zero_f ≤ᶠ f.cost j)
-        → ((i : ℕ) → i < f.rows → IsWithin (f.limits (row_variable f i)) zero_f)
+    ensures optimal { (f : Form) → IsStandard f → ((j : ℕ) → j < f.columns → zero_f ≤ᶠ cost f j)
+        → ((i : ℕ) → i < f.rows → IsWithin (limits f (row_variable f i)) zero_f)
         → HoldsOptimal f (λ v. zero_f) (cost_of f) }
     ensures objective { (constant : Fraction) (n : ℕ) (cost : ℕ → Fraction) → objective_of constant n cost (λ v. zero_f) ≡ constant }
 {}
