@@ -1,0 +1,125 @@
+//! One step of an elimination at a pivot.
+
+ghost use Rattle.std.specs.Prelude.{◌≡◌, ◌<◌, ℕ, length, true, false, [], List};
+ghost use Rattle.pami_algebra.specs.Fraction.{Fraction};
+ghost use Rattle.pami_frac.specs.Signs.{is_zero};
+ghost use Rattle.pami_script.specs.Dense.{get};
+ghost use Rattle.pami_script.specs.Follows.{FollowsScript};
+ghost use Rattle.pami_factoring.specs.Factor.{flag, row_at, sub_row, reduce_row, reduce_rows};
+ghost use Rattle.pami_lu.specs.Follow.{FollowsAs};
+
+use pami_factoring::subtract_if;
+use pami_frac::{Fault, Frac, FracList, Refused};
+use std::alloc::Global;
+
+/// x - l y at each active place, ascending; `xs` and `ys` go by place.
+fn reduce_entries(
+    alloc: Global,
+    places: &[bool],
+    xs: &[Frac],
+    l: Frac,
+    ys: &[Frac],
+) -> Result<FracList, Fault<Refused>>
+    requires same { length places.now ≡ length xs.now }
+    requires other { length ys.now ≡ length xs.now }
+    ensures { FollowsScript (sub_row places.now xs.now l ys.now) result }
+{
+    let mut out = Vec::new(alloc);
+    for (g, x) in xs.iter().enumerate() {
+        let value = match subtract_if(places[g], *x, l, ys[g]) {
+            Ok(value) => value,
+            Err(refused) => return Err(Fault::Named(refused)),
+        };
+        if out.push(value).is_err() {
+            return Err(Fault::OutOfMemory);
+        }
+    }
+    Ok(FracList::from_vec(out))
+}
+
+/// A row after a step, and its multiplier.
+#[derive(Drop)]
+pub(crate) struct ReducedRow {
+    row: FracList,
+    multiplier: Frac,
+}
+
+/// One row of a step with a pivot at this place. A row that isn't active is emptied; one with a 0 at the place stays
+/// as it is.
+fn reduce_row(
+    alloc: Global,
+    active: bool,
+    places: &[bool],
+    place: usize,
+    row: FracList,
+    kept: &[Frac],
+) -> Result<ReducedRow, Fault<Refused>>
+    requires same { active ≡ true → length row ≡ length places.now }
+    requires other { length kept.now ≡ length places.now }
+    requires low { place < length places.now }
+    requires nonzero { is_zero (get kept.now place) ≡ false }
+    ensures { FollowsAs (λ r. (r.row, r.multiplier)) (reduce_row active places.now place row kept.now) result }
+{
+    if !active {
+        return Ok(ReducedRow {
+            row: FracList::from_vec(Vec::new(alloc)),
+            multiplier: Frac::zero(),
+        });
+    }
+    let multiplier = match row.as_slice()[place].div(kept[place]) {
+        Ok(multiplier) => multiplier,
+        Err(refused) => return Err(Fault::Named(refused)),
+    };
+    if multiplier.is_zero() {
+        return Ok(ReducedRow { row, multiplier });
+    }
+    match reduce_entries(alloc, places, row.as_slice(), multiplier, kept) {
+        Ok(row) => Ok(ReducedRow { row, multiplier }),
+        Err(fault) => Err(fault),
+    }
+}
+
+/// The rows after a step, and their multipliers.
+#[derive(Drop)]
+pub(crate) struct ReducedRows {
+    pub(crate) rows: Vec<FracList>,
+    pub(crate) multipliers: FracList,
+}
+
+/// Each row of a step in turn; the flags are those after it, and `kept` is the pivot's row, by place.
+pub(crate) fn reduce_rows(
+    alloc: Global,
+    active: &[bool],
+    places: &[bool],
+    place: usize,
+    rows: Vec<FracList>,
+    kept: &[Frac],
+) -> Result<ReducedRows, Fault<Refused>>
+    requires same { (h : ℕ) → h < length rows.items → flag active.now h ≡ true → length (row_at rows.items h) ≡ length places.now }
+    requires all { length active.now ≡ length rows.items }
+    requires other { length kept.now ≡ length places.now }
+    requires low { place < length places.now }
+    requires nonzero { is_zero (get kept.now place) ≡ false }
+    ensures { FollowsAs (λ r. (r.rows.items, r.multipliers)) (reduce_rows active.now places.now place rows.items kept.now) result }
+{
+    let mut out = Vec::new(alloc);
+    let mut multipliers = Vec::new(alloc);
+    let mut h = 0;
+    for row in rows {
+        let next = match reduce_row(alloc, active[h], places, place, row, kept) {
+            Ok(next) => next,
+            Err(fault) => return Err(fault),
+        };
+        h += 1;
+        if multipliers.push(next.multiplier).is_err() {
+            return Err(Fault::OutOfMemory);
+        }
+        if out.push(next.row).is_err() {
+            return Err(Fault::OutOfMemory);
+        }
+    }
+    Ok(ReducedRows {
+        rows: out,
+        multipliers: FracList::from_vec(multipliers),
+    })
+}
