@@ -1,0 +1,12 @@
+pub mod Place
+pub mod Factor
+pub mod Scripts
+pub mod Batch
+pub mod Work
+pub mod OneRow
+pub mod Walk
+pub mod Phases
+pub mod ExampleWords
+pub mod BlendingExample
+pub mod SmallExamples
+pub mod PhaseExamples
