@@ -1,1 +1,3 @@
 pub mod Texts
+pub mod Objectives
+pub mod WorkedTexts

@@ -1,2 +1,4 @@
 pub mod Line
 pub mod Answer
+pub mod Record
+pub mod Examples
