@@ -1,0 +1,9 @@
+pub mod Bounds
+pub mod Signed
+pub mod Placed
+pub mod Summed
+pub mod Listed
+pub mod Formed
+pub mod Begun
+pub mod Small
+pub mod Known
