@@ -1,0 +1,4 @@
+pub mod Candidates
+pub mod Firsts
+pub mod Walks
+pub mod Agreement

@@ -1,0 +1,13 @@
+//! Pricing: the entries of the pivot row, by slices of 64 variables.
+//!
+//! Stands on `pami_vec`, whose `dot` gives one entry, and on `pami_method`, whose script a slice follows. The layers above may
+//! rely on a slice having exactly the entries of its nonbasic variables that aren't 0, ascending, on its refusal being
+//! the first of that script, and on slices not depending on each other.
+#![tactic(auto)]
+
+mod price;
+pub mod price_laws;
+#[cfg(test)]
+mod tests;
+
+pub use price::{SliceRefused, price_all, price_slice};

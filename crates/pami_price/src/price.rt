@@ -1,0 +1,135 @@
+//! The entries of one slice, and of all slices one after the other.
+
+ghost use Rattle.std.specs.Prelude.{◌≡◌, ◌<◌, ◌^◌, ◌*◌, ◌+◌, ℕ, length};
+ghost use Rattle.pami_price.specs.Slices.{column_at, is_nonbasic, slice_size, slice_script, row_script};
+ghost use Rattle.pami_price.specs.Follow.{FollowsEntries, FollowsOnto, in_slice};
+
+use pami_frac::{Entry, Fault, Refused};
+use pami_vec::{SpVec, Stand};
+use std::alloc::Global;
+
+/// A slice and its first operation that doesn't fit.
+#[derive(Clone, Copy, Debug, PartialEq, Eq)]
+pub struct SliceRefused {
+    pub slice: u32,
+    pub refused: Refused,
+}
+
+/// Is a variable that stands so out of the basis?
+fn is_nonbasic(stand: Stand) -> bool
+    ensures { result ≡ is_nonbasic stand }
+{
+    match stand {
+        Stand::Basic => false,
+        _ => true,
+    }
+}
+
+/// How many variables a slice has.
+fn slice_size(count: usize, slice: usize) -> usize
+    requires few { count < 2 ^ 32 }
+    requires exists { 64 * slice < count }
+    ensures value { result ≡ slice_size count slice }
+    ensures within { 64 * slice + result < count + 1 }
+{
+    let left = count - 64 * slice;
+    if 64 < left { 64 } else { left }
+}
+
+/// Puts the entries of a slice behind those that are there.
+fn price_onto(
+    out: &mut Vec<Entry>,
+    columns: &[SpVec],
+    stands: &[Stand],
+    rho: &SpVec,
+    slice: usize,
+) -> Result<(), Fault<Refused>>
+    requires same { length columns.now ≡ length stands.now }
+    requires rows { (v : ℕ) → v < length columns.now → length (column_at columns.now v) ≡ length rho.now }
+    requires few { length columns.now < 2 ^ 32 }
+    requires exists { 64 * slice < length columns.now }
+    ensures { FollowsOnto (slice_script columns.now stands.now rho.now slice) out.old.items out.new.items result }
+{
+    let first = 64 * slice;
+    let last = first + slice_size(columns.len(), slice);
+    for v in first..last {
+        if is_nonbasic(stands[v]) {
+            let alpha = match rho.dot(&columns[v]) {
+                Ok(alpha) => alpha,
+                Err(refused) => return Err(Fault::Named(refused)),
+            };
+            if !alpha.is_zero() {
+                out.push(Entry {
+                    place: v as u32,
+                    value: alpha,
+                })?;
+            }
+        }
+    }
+    Ok(())
+}
+
+/// The entries of the pivot row in one slice, the variables 64 `slice` .. 64 `slice` + 63 as far as there are so many: for
+/// each nonbasic one `rho` times its column, zeros left out, ascending. Columns and stands go by variable, `rho` by row.
+/// (Koberstein 2005, section 3.2.)
+///
+/// # Errors
+///
+/// `Named` exactly where an operation of these products doesn't fit: the first such. `OutOfMemory` where memory runs out.
+pub fn price_slice(
+    alloc: Global,
+    columns: &[SpVec],
+    stands: &[Stand],
+    rho: &SpVec,
+    slice: u32,
+) -> Result<Vec<Entry>, Fault<Refused>>
+    requires same { length columns.now ≡ length stands.now }
+    requires rows { (v : ℕ) → v < length columns.now → length (column_at columns.now v) ≡ length rho.now }
+    requires few { length columns.now < 2 ^ 32 }
+    requires exists { 64 * slice < length columns.now }
+    ensures { FollowsEntries (slice_script columns.now stands.now rho.now slice) result }
+{
+    let mut out = Vec::new(alloc);
+    match price_onto(&mut out, columns, stands, rho, slice as usize) {
+        Ok(()) => Ok(out),
+        Err(fault) => Err(fault),
+    }
+}
+
+/// The fault of a row for the fault of one of its slices.
+fn in_slice(slice: u32, fault: Fault<Refused>) -> Fault<SliceRefused>
+    ensures { result ≡ in_slice slice fault }
+{
+    match fault {
+        Fault::Named(refused) => Fault::Named(SliceRefused { slice, refused }),
+        Fault::OutOfMemory => Fault::OutOfMemory,
+    }
+}
+
+/// The entries of the whole pivot row, all slices ascending: for each nonbasic variable `rho` times its column, zeros
+/// left out.
+///
+/// # Errors
+///
+/// `Named` exactly where an operation of some slice doesn't fit: the first such, with the first slice that meets one.
+/// `OutOfMemory` where memory runs out.
+pub fn price_all(
+    alloc: Global,
+    columns: &[SpVec],
+    stands: &[Stand],
+    rho: &SpVec,
+) -> Result<Vec<Entry>, Fault<SliceRefused>>
+    requires same { length columns.now ≡ length stands.now }
+    requires rows { (v : ℕ) → v < length columns.now → length (column_at columns.now v) ≡ length rho.now }
+    requires few { length columns.now < 2 ^ 32 }
+    ensures { FollowsEntries (row_script columns.now stands.now rho.now) result }
+{
+    let mut out = Vec::new(alloc);
+    for slice in 0..(columns.len() + 63) / 64 {
+        match price_onto(&mut out, columns, stands, rho, slice) {
+            Ok(()) => {}
+            Err(fault) => return Err(in_slice(slice as u32, fault)),
+        }
+    }
+    Ok(out)
+}
