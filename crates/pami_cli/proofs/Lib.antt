@@ -5,3 +5,4 @@ pub mod Small
 pub mod Printed
 pub mod Accepted
 pub mod Runs
+pub mod Narrow

@@ -10,6 +10,7 @@ mod start;
 mod status;
 #[cfg(test)]
 mod tests;
+pub mod width_laws;
 mod words;
 
 use pami_edge::{RealShelf, RealSink, Word};

@@ -1,0 +1,4 @@
+pub mod Rises
+pub mod Wide
+pub mod Lists
+pub mod Formed
