@@ -1,0 +1,13 @@
+pub mod Passes
+pub mod Results
+pub mod Flipped
+pub mod Moved
+pub mod Majors
+pub mod Sliced
+pub mod Laid
+pub mod Stepped
+pub mod Fresh
+pub mod Leaves
+pub mod Sizes
+pub mod Takes
+pub mod Ready
