@@ -1,6 +1,7 @@
 -- A step over a program's lists: what its flips change, its length, and where variables stand behind it. Columns go by
 -- variable and then by row, stands and widths by variable.
-use Rattle.std.specs.Prelude.{◌≡◌, ◌<◌, ℕ, List, [], ◌∷◌, length, set, cond, nat_eq, Option, None, Result, Ok, Err, slice_index_or}
+use Rattle.std.specs.Prelude.{◌≡◌, ◌<◌, ℕ, List, [], ◌∷◌, length, map, set, cond, nat_eq, All, Option, None, Result, Ok, Err, slice_index_or}
+use Rattle.std.specs.Global.{Vec}
 use Rattle.pami_algebra.specs.Fraction.{Fraction}
 use Rattle.pami_algebra.specs.Operations.{neg_f}
 use Rattle.pami_linear.specs.Lists.{get}
@@ -8,6 +9,7 @@ use Rattle.pami_frac.specs.Arithmetic.{sub_outcome, div_outcome}
 use Rattle.pami_frac.specs.declared.arithmetic.Refused.{Refused}
 use Rattle.pami_frac.specs.declared.fault.Fault.{Fault}
 use Rattle.pami_frac.specs.declared.fault.Fault.TheVariants as faults
+use Rattle.pami_frac.specs.declared.list.Entry.{Entry}
 use Rattle.pami_script.specs.Script.{then, each_member, add_product}
 use Rattle.pami_factoring.specs.Solve.{transform_one}
 use Rattle.pami_theory.specs.Form.{zero_f}
@@ -23,6 +25,7 @@ use Rattle.pami_state.specs.State.{stand_of}
 use Rattle.pami_method.specs.Work.{sub_at}
 use Rattle.pami_major.specs.declared.change.Change.{Change}
 use Rattle.pami_major.specs.declared.change.Stop.{Stop}
+use Rattle.pami_major.specs.declared.step.Flip.{Flip}
 use Rattle.pami_major.specs.Changes.{turned, AreChanged, IsStopped}
 
 -- ---- flips
@@ -68,7 +71,29 @@ pub record AreStandsBehind (stands : List Stand) (flips : List ℕ) (leaving : �
   pub as_many : length behind ≡ length stands
   pub at : (v : ℕ) → v < length stands → slice_index_or behind v Basic ≡ stand_behind stands flips leaving side entering v
 
+-- ---- flips as they are told: each with where its variable stands behind it
+abbrev pub flip_of : List Stand → ℕ → Flip
+flip_of stands v = record { variable = v; stand = turned_stand (slice_index_or stands v Basic) }
+
+-- the variables of some flips
+abbrev pub flipped : List Flip → List ℕ
+flipped flips = map (λ (f : Flip). f.variable) flips
+
+-- each goes to the other bound from where it stands
+abbrev pub AreTurned : List Stand → List Flip → Type 0
+AreTurned stands flips = All (λ (f : Flip). (f.variable < length stands) × (f.stand ≡ turned_stand (slice_index_or stands f.variable Basic))) flips
+
 -- ---- reduced costs
+-- these members, each put in at its place
+abbrev pub put_all : List Entry → List Fraction → List Fraction
+put_all [] xs = xs
+put_all (e ∷ es) xs = put_all es (set xs e.place e.value)
+
+-- the reduced costs behind a step: the shifted ones are put in, the entering variable has 0, and the leaving one has the
+-- step length, turned to its side and negated
+abbrev pub costs_behind : List Entry → ℕ → ℕ → Fraction → Side → List Fraction → List Fraction
+costs_behind shifted entering leaving tau side reduced = set (set (put_all shifted reduced) entering zero_f) leaving (neg_f (turned side tau))
+
 -- those of other variables are changed; the leaving one has the step length, turned to its side and negated, and the
 -- entering one 0
 pub record AreShifted (c : Change) (old : List Fraction) (v : ℕ → Fraction) (tau : Fraction) (side : Side) (entering leaving : ℕ) (new : List Fraction) : Type 0 where
@@ -76,10 +101,15 @@ pub record AreShifted (c : Change) (old : List Fraction) (v : ℕ → Fraction) 
   pub changed : AreChanged c old v costs
   pub exchanged : new ≡ set (set costs entering zero_f) leaving (neg_f (turned side tau))
 
-abbrev pub FollowsShift : Change → List Fraction → (ℕ → Fraction) → Fraction → Side → ℕ → ℕ → Result (List Fraction) (Fault Stop) → Type 0
-FollowsShift c old v tau side entering leaving (Ok new) = AreShifted c old v tau side entering leaving new
-FollowsShift c old v tau side entering leaving (Err (faults.Named stop)) = IsStopped c old v stop.place stop.refused
-FollowsShift c old v tau side entering leaving (Err faults.OutOfMemory) = Unit {0}
+-- the list with these members put in
+pub record ArePut (c : Change) (old : List Fraction) (v : ℕ → Fraction) (shifted : List Entry) : Type 0 where
+  pub changed : AreChanged c old v (put_all shifted old)
+  pub within : All (λ (e : Entry). e.place < length old) shifted
+
+abbrev pub FollowsShift : Change → List Fraction → (ℕ → Fraction) → Result (Vec Entry) (Fault Stop) → Type 0
+FollowsShift c old v (Ok shifted) = ArePut c old v shifted.items
+FollowsShift c old v (Err (faults.Named stop)) = IsStopped c old v stop.place stop.refused
+FollowsShift c old v (Err faults.OutOfMemory) = Unit {0}
 
 -- ---- values by place
 -- what the flips change is taken off, the entering column comes in with its value, the bound goes off at the place

@@ -1,5 +1,5 @@
 -- What becomes of a row that leaves, over a form's and a state's lists.
-use Rattle.std.specs.Prelude.{◌≡◌, ◌<◌, ◌+◌, ◌^◌, ℕ, false, List, [], length, All, Option, None, Some, Result, Ok, Err, slice_index_or}
+use Rattle.std.specs.Prelude.{◌≡◌, ◌<◌, ◌+◌, ◌^◌, ℕ, false, List, [], length, map, All, Option, None, Some, Result, Ok, Err, slice_index_or}
 use Rattle.std.specs.List.{filter, range_with_len}
 use Rattle.pami_algebra.specs.Fraction.{Fraction}
 use Rattle.pami_algebra.specs.Operations.{is_zero as is_nil}
@@ -8,6 +8,7 @@ use Rattle.pami_frac.specs.Signs.{is_zero}
 use Rattle.pami_frac.specs.declared.fault.Fault.{Fault}
 use Rattle.pami_frac.specs.declared.fault.Fault.TheVariants as faults
 use Rattle.pami_frac.specs.declared.list.Bounds.{Bounds}
+use Rattle.pami_frac.specs.declared.list.Entry.{Entry}
 use Rattle.pami_script.specs.Dense.{at, Rising}
 use Rattle.pami_factoring.specs.Solve.{forward_script}
 use Rattle.pami_theory.specs.Ratio.{Entering}
@@ -19,12 +20,12 @@ use Rattle.pami_log.specs.declared.place.Place.{Place}
 use Rattle.pami_state.specs.Columns.{column_of}
 use Rattle.pami_state.specs.declared.state.State.{State}
 use Rattle.pami_major.specs.declared.choose.LeavingRow.{LeavingRow}
-use Rattle.pami_major.specs.Exchange.{flip_at}
+use Rattle.pami_major.specs.Exchange.{flip_at, flip_of, AreTurned, costs_behind}
 use Rattle.pami_major.specs.Taken.{limits_read, passed_by, standing_by}
 use Rattle.pami_major.specs.Solving.{Found, Stepped, Behind, at_place, walk_outcome, step_outcome, behind_outcome}
+use Rattle.pami_major.specs.declared.tried.WorkedStep.{WorkedStep}
 use Rattle.pami_major.specs.declared.tried.Tried.{Tried}
 use Rattle.pami_major.specs.declared.tried.Tried.TheVariants as tried
-use Rattle.pami_major.specs.Behind.{IsBehind}
 
 -- the lists of the form and those of the state go over the same variables and places
 pub record AreListsOf (form : Form) (st : State) : Type 0 where
@@ -68,18 +69,38 @@ abbrev pub solved_by : Form → State → LeavingRow → Found → Entering → 
 solved_by form st row w e s =
     behind_outcome w.steps (column_of form.columns e.variable) s.flips st.values (standing_by (limits_read (bounds_of form e.variable)) (slice_index_or st.stands e.variable Basic)) (bound_of form st row) row.place
 
--- the state behind, of what the step and the solves give
-pub record IsTaken (form : Form) (st : State) (row : LeavingRow) (w : Found) (e : Entering) (new : State) : Type 0 where
+-- what is worked out is what the step and the solves give
+pub record IsWorked (form : Form) (st : State) (row : LeavingRow) (w : Found) (e : Entering) (x : WorkedStep) : Type 0 where
   pub step : Stepped
   pub behind : Behind
   pub stepped : stepped_by form st row w e ≡ Ok step
   pub solved : solved_by form st row w e step ≡ Ok behind
-  pub state : IsBehind st e.flips row.place (leaving_at st row) row.violation.side e.variable behind.column behind.values step.reduced new
+  pub variable : x.variable ≡ e.variable
+  pub tau : x.tau ≡ e.tau
+  pub flips : x.flips.items ≡ map (flip_of st.stands) e.flips
+  pub column : x.column ≡ behind.column
+  pub values : x.values ≡ behind.values
+  pub reduced : costs_behind x.shifted.items e.variable (leaving_at st row) e.tau row.violation.side st.reduced ≡ step.reduced
+  pub within : All (λ (c : Entry). c.place < length st.reduced) x.shifted.items
 
-abbrev pub FollowsTaken : Form → State → LeavingRow → Found → Entering → Result State (Fault Place) → Type 0
-FollowsTaken form st row w e (Ok new) = IsTaken form st row w e new
-FollowsTaken form st row w e (Err (faults.Named place)) = at_place (stepped_by form st row w e) (λ s. solved_by form st row w e s) ≡ Err place
-FollowsTaken form st row w e (Err faults.OutOfMemory) = Unit {0}
+abbrev pub FollowsWorked : Form → State → LeavingRow → Found → Entering → Result WorkedStep (Fault Place) → Type 0
+FollowsWorked form st row w e (Ok x) = IsWorked form st row w e x
+FollowsWorked form st row w e (Err (faults.Named place)) = at_place (stepped_by form st row w e) (λ s. solved_by form st row w e s) ≡ Err place
+FollowsWorked form st row w e (Err faults.OutOfMemory) = Unit {0}
+
+-- a step that can be taken from the state: what it changes is there, and its pivot isn't 0
+pub record AreMovable (st : State) (row : LeavingRow) (x : WorkedStep) : Type 0 where
+  pub place : row.place < length st.head
+  pub leaving : leaving_at st row < length st.stands
+  pub entering : x.variable < length st.stands
+  pub turned : AreTurned st.stands x.flips.items
+  pub reduced : length st.reduced ≡ length st.stands
+  pub within : All (λ (c : Entry). c.place < length st.reduced) x.shifted.items
+  pub weights : length st.weights ≡ length st.head
+  pub column : length x.column ≡ length st.head
+  pub nonzero : is_nil (get x.column row.place) ≡ false
+  pub range : AreWeights st.weights
+  pub more : st.pivots + 1 < 2 ^ 32
 
 -- the walk of the row
 abbrev pub walked_by : Form → State → LeavingRow → Result Found Place
@@ -96,12 +117,11 @@ abbrev pub on_entering : Option Entering → (Entering → Result Behind Place) 
 on_entering None f = Ok (record { column = []; values = [] })
 on_entering (Some e) f = f e
 
--- a row without an entering variable, or the state behind its step
+-- a row without an entering variable, or its step
 abbrev pub FollowsTried : Form → State → LeavingRow → Result Tried (Fault Place) → Type 0
 FollowsTried form st row (Ok (tried.Stuck rho)) = (w : Found) × (walked_by form st row ≡ Ok w) × (w.entering ≡ None) × (w.rho ≡ rho)
-FollowsTried form st row (Ok (tried.Moved new variable tau flips)) =
-    (w : Found) × (walked_by form st row ≡ Ok w) × (w.entering ≡ Some (record { variable = variable; tau = tau; flips = flips }))
-    × IsTaken form st row w (record { variable = variable; tau = tau; flips = flips }) new
+FollowsTried form st row (Ok (tried.Moves x)) =
+    (w : Found) × (e : Entering) × (walked_by form st row ≡ Ok w) × (w.entering ≡ Some e) × IsWorked form st row w e x
 FollowsTried form st row (Err (faults.Named place)) =
     at_place (walked_by form st row) (λ w. on_entering w.entering (λ e. at_place (stepped_by form st row w e) (λ s. solved_by form st row w e s))) ≡ Err place
 FollowsTried form st row (Err faults.OutOfMemory) = Unit {0}

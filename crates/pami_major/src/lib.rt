@@ -10,9 +10,16 @@ mod behind;
 mod change;
 mod choose;
 mod collect;
+mod one_row;
+mod options;
 mod shift;
 mod solve;
 mod sparse;
 mod step;
 mod take;
 mod tried;
+mod walk;
+mod within;
+
+pub use options::Options;
+pub use walk::{WalkEnd, Walked, drive};

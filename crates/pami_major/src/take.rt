@@ -1,6 +1,6 @@
 //! One step of a major of one row: from the state before to the one behind.
 
-ghost use Rattle.std.specs.Prelude.{◌≡◌, ◌<◌, ◌≤◌, ◌+◌, ◌^◌, ℕ, List, [], length, slice_index_or, All, false, Ok, None};
+ghost use Rattle.std.specs.Prelude.{◌≡◌, ◌<◌, ◌≤◌, ◌+◌, ◌^◌, ℕ, List, [], length, slice_index_or, All, IfOk, false, Ok, None};
 ghost use Rattle.std.specs.List.{filter, range_with_len};
 ghost use Rattle.pami_algebra.specs.Fraction.{Fraction};
 ghost use Rattle.pami_algebra.specs.Operations.{is_zero as is_nil};
@@ -11,7 +11,7 @@ ghost use Rattle.pami_factoring.specs.Solve.{forward_script};
 ghost use Rattle.pami_devex.specs.Weights.{AreWeights};
 ghost use Rattle.pami_theory.specs.Step.{is_among};
 ghost use Rattle.pami_state.specs.Columns.{column_of};
-ghost use Rattle.pami_major.specs.Exchange.{flip_at};
+ghost use Rattle.pami_major.specs.Exchange.{flip_at, costs_behind};
 ghost use Rattle.pami_major.specs.Solving.{FollowsOutcome, step_outcome};
 ghost use Rattle.pami_major.specs.Taken.{limits_read, passed_by, standing_by};
 
@@ -54,14 +54,14 @@ pub(crate) fn standing_value(bounds: &Bounds, stand: Stand) -> Frac
     }
 }
 
-/// What the flips change in each row, and the reduced costs behind the step.
+/// What the flips change in each row, and the reduced costs that change.
 #[derive(Debug, Drop)]
 pub(crate) struct ShiftedStep {
     pub(crate) flips: FracList,
-    pub(crate) reduced: FracList,
+    pub(crate) shifted: Vec<Entry>,
 }
 
-/// Works out what the flips change in each row, the primal step length and the reduced costs behind the step.
+/// Works out what the flips change in each row, the primal step length and the reduced costs that change.
 ///
 /// # Errors
 ///
@@ -88,15 +88,13 @@ pub(crate) fn shift_step(
     requires tall { (v : ℕ) → v < length columns.now → length (column_of columns.now v) ≡ length rho.now }
     requires known { All (λ v. v < length columns.now) flips.now }
     requires rising { Rising 0 (length reduced.now) alpha.now }
-    requires entering { variable < length reduced.now }
-    requires leaving { leaving < length reduced.now }
     requires nonzero { is_zero (at alpha.now variable) ≡ false }
-    ensures { FollowsOutcome (λ s. record { flips = s.flips; reduced = s.reduced })
+    ensures outcome { FollowsOutcome (λ s. record { flips = s.flips; reduced = costs_behind s.shifted.items variable leaving tau side reduced.now })
         (step_outcome columns.now (flip_at stands.now widths.now) (filter (λ v. is_among v flips.now) (range_with_len 0 (length columns.now))) (length rho.now) rho.now reduced.now value bound side alpha.now
         (record { variable = variable; tau = tau; flips = flips.now }) leaving) result }
+    ensures within { IfOk result (λ s. All (λ e. e.place < length reduced.now) s.shifted.items) }
 {
-    let rows = rho.len();
-    let changes = match flip_column(alloc, columns, stands, widths, rows, flips) {
+    let changes = match flip_column(alloc, columns, stands, widths, rho.len(), flips) {
         Ok(changes) => changes,
         Err(fault) => return Err(at(Spot::Step { minor: 1 }, fault)),
     };
@@ -113,10 +111,10 @@ pub(crate) fn shift_step(
             }));
         }
     }
-    match shift_slices(alloc, reduced, alpha, side, tau, variable, leaving) {
-        Ok(reduced) => Ok(ShiftedStep {
+    match shift_slices(alloc, reduced, alpha, side, tau, variable) {
+        Ok(shifted) => Ok(ShiftedStep {
             flips: changes,
-            reduced,
+            shifted,
         }),
         Err(fault) => Err(fault),
     }

@@ -10,45 +10,50 @@ ghost use Rattle.pami_price.specs.Slices.{row_script};
 ghost use Rattle.pami_theory.specs.Ratio.{Entering};
 ghost use Rattle.pami_devex.specs.Weights.{AreWeights};
 ghost use Rattle.pami_major.specs.Solving.{Found};
-ghost use Rattle.pami_major.specs.Tried.{AreListsOf, IsSound, FollowsTaken, walked_by, IsFoundSound, FollowsTried};
+ghost use Rattle.pami_major.specs.Tried.{AreListsOf, IsSound, FollowsWorked, walked_by, IsFoundSound, FollowsTried};
 
-use crate::behind::state_behind;
 use crate::choose::LeavingRow;
 use crate::solve::{SolvedStep, WalkedRow, solve_step, walk_row};
 use crate::sparse::sparse;
+use crate::step::{Flip, turned_flips};
 use crate::take::{ShiftedStep, passed_bound, shift_step, standing_value};
 use pami_bfrt::Walk;
 use pami_factor::Factor;
 use pami_form::Form;
-use pami_frac::{Entry, Fault, Frac};
+use pami_frac::{Entry, Fault, Frac, FracList};
 use pami_log::Place;
 use pami_lu::Steps;
 use pami_state::State;
-use pami_vec::{PlaceList, SpVec};
+use pami_vec::SpVec;
 use std::alloc::Global;
+
+/// A step that is worked out and not yet taken: what enters, the dual step length and the flips, the entering column and
+/// the values behind the step by place, and the reduced costs that change.
+#[derive(Debug, Drop)]
+pub(crate) struct WorkedStep {
+    pub(crate) variable: u32,
+    pub(crate) tau: Frac,
+    pub(crate) flips: Vec<Flip>,
+    pub(crate) column: SpVec,
+    pub(crate) values: FracList,
+    pub(crate) shifted: Vec<Entry>,
+}
 
 /// What becomes of a row.
 #[derive(Debug, Drop)]
 pub(crate) enum Tried {
-    /// The state behind its step, with the variable that enters, the dual step length and the flips.
-    Moved {
-        state: State,
-        variable: u32,
-        tau: Frac,
-        flips: PlaceList,
-    },
+    /// Its step.
+    Moves(WorkedStep),
     /// No variable enters; the row of its place.
-    Stuck {
-        rho: SpVec,
-    },
+    Stuck { rho: SpVec },
 }
 
-/// Takes the step of a row by the variable that enters. It counts two steps at most.
+/// Works out the step of a row by the variable that enters. It counts two steps at most.
 ///
 /// # Errors
 ///
 /// `Named` exactly where an operation doesn't fit: the first such, with its script. `OutOfMemory` where memory runs out.
-fn take_step<L>(
+fn work_step<L>(
     alloc: Global,
     form: &Form,
     state: &State,
@@ -60,14 +65,14 @@ fn take_step<L>(
     tau: Frac,
     flips: &[u32],
     steps: &mut Steps<L>,
-) -> Result<State, Fault<Place>>
+) -> Result<WorkedStep, Fault<Place>>
     requires lists { AreListsOf form.now state.now }
     requires place { row.now.place < length state.now.head }
     requires sound { IsSound form.now.columns row.now.place (record { steps = factor.now.steps; rho = rho.now; alpha = alpha.now; entering = None }) (record { variable = variable; tau = tau; flips = flips.now }) }
     requires rows { length rho.now ≡ length state.now.head }
     requires steps { length factor.now.steps ≡ length state.now.head }
     requires fresh { factor.now.pivots ≡ [] }
-    ensures outcome { FollowsTaken form.now state.now row.now (record { steps = factor.now.steps; rho = rho.now; alpha = alpha.now; entering = None }) (record { variable = variable; tau = tau; flips = flips.now }) result }
+    ensures outcome { FollowsWorked form.now state.now row.now (record { steps = factor.now.steps; rho = rho.now; alpha = alpha.now; entering = None }) (record { variable = variable; tau = tau; flips = flips.now }) result }
     ensures counted { steps.new.count ≤ steps.old.count + 2 }
 {
     let columns = form.columns.as_slice();
@@ -79,7 +84,7 @@ fn take_step<L>(
     let bound = passed_bound(&bounds[leaving as usize], side);
     let ShiftedStep {
         flips: changes,
-        reduced,
+        shifted,
     } = match shift_step(
         alloc,
         columns,
@@ -103,11 +108,12 @@ fn take_step<L>(
         Ok(change) => change,
         Err(_) => return Err(Fault::OutOfMemory),
     };
+    let turned = match turned_flips(alloc, stands, flips) {
+        Ok(turned) => turned,
+        Err(_) => return Err(Fault::OutOfMemory),
+    };
     let entering = standing_value(&bounds[variable as usize], stands[variable as usize]);
-    let SolvedStep {
-        column,
-        values: solved,
-    } = match solve_step(
+    match solve_step(
         alloc,
         factor,
         &columns[variable as usize],
@@ -118,18 +124,19 @@ fn take_step<L>(
         row.place,
         steps,
     ) {
-        Ok(solved) => solved,
-        Err(fault) => return Err(fault),
-    };
-    match state_behind(
-        alloc, state, flips, row.place, leaving, side, variable, &column, solved, reduced,
-    ) {
-        Ok(state) => Ok(state),
-        Err(_) => Err(Fault::OutOfMemory),
+        Ok(SolvedStep { column, values }) => Ok(WorkedStep {
+            variable,
+            tau,
+            flips: turned,
+            column,
+            values,
+            shifted,
+        }),
+        Err(fault) => Err(fault),
     }
 }
 
-/// Walks the candidates of a row that leaves, and takes its step where a variable enters. It counts four steps at most.
+/// Walks the candidates of a row that leaves, and works out its step where a variable enters. It counts four steps at most.
 ///
 /// # Errors
 ///
@@ -175,7 +182,7 @@ pub(crate) fn try_row<L>(
             variable,
             tau,
             flips,
-        } => match take_step(
+        } => match work_step(
             alloc,
             form,
             state,
@@ -188,12 +195,7 @@ pub(crate) fn try_row<L>(
             flips.as_slice(),
             steps,
         ) {
-            Ok(state) => Ok(Tried::Moved {
-                state,
-                variable,
-                tau,
-                flips,
-            }),
+            Ok(step) => Ok(Tried::Moves(step)),
             Err(fault) => Err(fault),
         },
     }
