@@ -1,14 +1,18 @@
--- A model of an accepted file is of the small profile.
+-- A model of an accepted file is a minimum over columns that are at least 0.
 use Rattle.std.proofs.Common.{◌≡◌, ℕ, List, map, refl, sym, subst}
 use Rattle.std.specs.List.{All}
 use Rattle.std.proofs.lemmas.List.Elements.{All-map}
 use Rattle.pami_model.specs.declared.list.Column.{Column}
+use Rattle.pami_model.specs.declared.model.Sense.TheVariants.{Min}
 use Rattle.pami_model.specs.Draft.{nonnegative, finished}
 use Rattle.pami_model.specs.Contents.{Contents, contents_of}
 use Rattle.pami_mps.specs.Line.{Line, text_lines}
 use Rattle.pami_mps.specs.Gather.{Names, Pair, seen, names_by, rows_of, free_rows_of, pairs_of, column_of, column_names}
 use Rattle.pami_mps.specs.Mps.{Mps}
-use Rattle.pami_cli.specs.Small.{IsSmall}
+
+pub record IsSmall (c : Contents) : Type 0 where
+  pub minimised : c.sense ≡ Min
+  pub nonnegative_columns : All (λ (column : Column). column.bounds ≡ nonnegative) c.columns
 
 abbrev IsAtLeastZero : Column → Type 0
 IsAtLeastZero column = column.bounds ≡ nonnegative

@@ -1,8 +1,11 @@
-pub mod Members
-pub mod Texts
-pub mod Certificates
-pub mod Small
-pub mod Printed
 pub mod Accepted
+pub mod Answers
 pub mod Runs
+pub mod Lines
+pub mod Objectives
+pub mod Listed
 pub mod Narrow
+pub mod Started
+pub mod Ended
+pub mod Begun
+pub mod Items

@@ -1,7 +1,9 @@
 pub mod Words
+pub mod Asked
 pub mod Status
 pub mod Form
-pub mod Small
 pub mod Text
-pub mod Start
+pub mod Values
+pub mod Solved
+pub mod Answer
 pub mod Run

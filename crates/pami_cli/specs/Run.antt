@@ -4,43 +4,26 @@ use Rattle.pami_edge.specs.Outside.{Files, HasFile, Rose, Grows, GrowsInPart, Ke
 use Rattle.pami_model.specs.Contents.{Contents}
 use Rattle.pami_mps.specs.Mps.{Mps}
 use Rattle.pami_cli.specs.declared.status.Status.{Status}
-use Rattle.pami_cli.specs.declared.status.Status.TheVariants.{Good, Words, File, ReadFault, WriteFault, OutOfMemory, Limit, NeedsPhaseOne}
-use Rattle.pami_cli.specs.Words.{file_of}
-use Rattle.pami_cli.specs.Start.{AnswersOptimal, AnswersLimit, AnswersPhaseOne}
+use Rattle.pami_cli.specs.declared.status.Status.TheVariants.{Words, File, ReadFault, WriteFault, OutOfMemory}
+use Rattle.pami_cli.specs.Words.{Ask, ask_of}
+use Rattle.pami_cli.specs.Answer.{AnswersModel}
 use Rattle.pami_cli.specs.Text.{bad_words_text, refused_text, read_fault_text}
 
--- what `solve` answers on a model, with no pivot allowed: a status and a whole text
-abbrev pub AnswersModel : Contents → Status → List ℕ → Type 0
-AnswersModel c Good written = AnswersOptimal c written
-AnswersModel c Limit written = AnswersLimit c written
-AnswersModel c NeedsPhaseOne written = AnswersPhaseOne c written
-AnswersModel c Words written = ⊥
-AnswersModel c File written = ⊥
-AnswersModel c ReadFault written = ⊥
-AnswersModel c WriteFault written = ⊥
-AnswersModel c OutOfMemory written = ⊥
-
 -- the bytes are a text of a model that is answered so
-pub record IsModelAnswer (bytes : List ℕ) (status : Status) (written : List ℕ) : Type 0 where
+pub record IsModelAnswer (bytes : List ℕ) (limit : ℕ) (status : Status) (written : List ℕ) : Type 0 where
   pub model : Contents
   pub text_of : Mps bytes model
-  pub answer : AnswersModel model status written
+  pub answer : AnswersModel model limit status written
 
 -- the bytes are no text of a model
-pub record IsRefused (bytes written : List ℕ) : Type 0 where
+pub record IsRefused (bytes : List ℕ) (status : Status) (written : List ℕ) : Type 0 where
   pub no_model : (c : Contents) → ¬ Mps bytes c
+  pub status_is : status ≡ File
   pub written_is : written ≡ refused_text
 
--- what `solve` answers on the bytes of its file
-abbrev pub Answers : List ℕ → Status → List ℕ → Type 0
-Answers bytes Good written = IsModelAnswer bytes Good written
-Answers bytes Limit written = IsModelAnswer bytes Limit written
-Answers bytes NeedsPhaseOne written = IsModelAnswer bytes NeedsPhaseOne written
-Answers bytes File written = IsRefused bytes written
-Answers bytes Words written = ⊥
-Answers bytes ReadFault written = ⊥
-Answers bytes WriteFault written = ⊥
-Answers bytes OutOfMemory written = ⊥
+-- what `solve` answers on the bytes of its file, with this limit of pivots
+abbrev pub Answers : List ℕ → ℕ → Status → List ℕ → Type 0
+Answers bytes limit status written = IsModelAnswer bytes limit status written ⊎ IsRefused bytes status written
 
 -- what a call was given, and what stood at its end: the words, the shelf's files and its count of faults, what the
 -- sink tells of its bytes and its count of faults
@@ -66,31 +49,31 @@ call words files shelf_before shelf_after told_before told_after sink_before sin
   sink_after = sink_after;
 }
 
--- the words name a file, and this is the answer on bytes that stand under that name
+-- the words ask for a file, and this is the answer on bytes that stand under that name
 pub record IsAnswered (call : Call) (status : Status) (written : List ℕ) : Type 0 where
-  pub name : List ℕ
+  pub asked : Ask
   pub bytes : List ℕ
-  pub named : file_of call.words ≡ Some name
-  pub under : HasFile call.files name bytes
-  pub answer : Answers bytes status written
+  pub asks : ask_of call.words ≡ Some asked
+  pub under : HasFile call.files asked.file bytes
+  pub answer : Answers bytes asked.limit status written
 
 -- the words are in the table, and the shelf failed
-pub record IsReadFault (call : Call) (written : List ℕ) : Type 0 where
-  pub name : List ℕ
-  pub named : file_of call.words ≡ Some name
+pub record IsReadFault (call : Call) (status : Status) (written : List ℕ) : Type 0 where
+  pub asked : Ask
+  pub asks : ask_of call.words ≡ Some asked
+  pub status_is : status ≡ ReadFault
   pub rose : Rose call.shelf_before call.shelf_after
   pub written_is : written ≡ read_fault_text
 
+-- the words are in no table
+pub record AreBadWords (call : Call) (status : Status) (written : List ℕ) : Type 0 where
+  pub not_asked : ask_of call.words ≡ None
+  pub status_is : status ≡ Words
+  pub written_is : written ≡ bad_words_text
+
 -- the status and the whole text that are due where neither memory nor the sink fails
 abbrev pub IsDue : Call → Status → List ℕ → Type 0
-IsDue call Words written = (file_of call.words ≡ None) × (written ≡ bad_words_text)
-IsDue call ReadFault written = IsReadFault call written
-IsDue call Good written = IsAnswered call Good written
-IsDue call Limit written = IsAnswered call Limit written
-IsDue call NeedsPhaseOne written = IsAnswered call NeedsPhaseOne written
-IsDue call File written = IsAnswered call File written
-IsDue call WriteFault written = ⊥
-IsDue call OutOfMemory written = ⊥
+IsDue call status written = AreBadWords call status written ⊎ (IsReadFault call status written ⊎ IsAnswered call status written)
 
 -- what is due was written whole, with its status; or the sink failed, and some front of it was written
 abbrev pub IsWrittenBy : Option (List ℕ) → Option (List ℕ) → ℕ → ℕ → Status → Status → List ℕ → Type 0
@@ -119,4 +102,4 @@ IsOrFault result status = (result ≡ status) ⊎ ((result ≡ ReadFault) ⊎ ((
 
 -- no name, or FILE alone
 abbrev pub AsksFor : List (List ℕ) → List (List ℕ) → Type 0
-AsksFor words asked = (asked ≡ []) ⊎ ((name : List ℕ) × (file_of words ≡ Some name) × (asked ≡ name ∷ []))
+AsksFor words asked = (asked ≡ []) ⊎ ((a : Ask) × (ask_of words ≡ Some a) × (asked ≡ a.file ∷ []))

@@ -1,37 +1,45 @@
 -- The texts that a run writes.
-use Rattle.std.specs.Prelude.{ℕ, List, [], ◌∷◌, ◌++◌, length, Some, codes, decimal}
+use Rattle.std.specs.Prelude.{ℕ, List, [], ◌∷◌, ◌++◌, codes, decimal}
+use Rattle.std.specs.List.{flat_map}
 use Rattle.pami_algebra.specs.Fraction.{Fraction}
-use Rattle.pami_model.specs.Rules.{names_of_rows, names_of_columns, stored_count}
+use Rattle.pami_linear.specs.Lists.{get}
 use Rattle.pami_model.specs.Contents.{Contents}
-use Rattle.pami_theory.specs.Start.{starting_stand}
-use Rattle.pami_theory.specs.Certificate.{objective_of}
-use Rattle.pami_text.specs.Line.{text}
-use Rattle.pami_text.specs.Answer.{Counts, Optimal, valued_from, head_lines, phase_line, optimal_lines, basis_line}
-use Rattle.pami_cli.specs.Form.{form_of, file_cost}
+use Rattle.pami_theory.specs.Basis.{Basis, stand_at}
+use Rattle.pami_method.specs.Walk.{Options}
+use Rattle.pami_method.specs.Phases.{Record, Answer}
+use Rattle.pami_text.specs.Line.{line, text}
+use Rattle.pami_text.specs.Answer.{head_lines, phase_line, optimal_lines, basis_line}
+use Rattle.pami_text.specs.Record.{Named, answer_line, certificate_of, run_lines}
+use Rattle.pami_log.specs.declared.event.Event.{Event}
+use Rattle.pami_log.specs.Events.{names_of, counts_of, event_lines}
+use Rattle.pami_cli.specs.Form.{file_cost}
 
-abbrev pub counts_of : Contents → Counts
-counts_of c = record { rows = length c.rows; columns = length c.columns; entries = stored_count c.columns }
-
--- the certificate of values x and reduced costs d of all variables
-abbrev pub optimal_of : Contents → (ℕ → Fraction) → (ℕ → Fraction) → Optimal
-optimal_of c x d = record {
-  objective = Some (objective_of c.constant (length c.columns) (file_cost c) x);
-  columns = valued_from 0 (names_of_columns c.columns) x d;
-  rows = valued_from (length c.columns) (names_of_rows c.rows) x d;
+-- a model as its texts name it
+abbrev pub named_of : Contents → Named
+named_of c = record {
+  names = names_of c;
+  counts = counts_of c;
+  constant = c.constant;
+  cost = file_cost c;
 }
 
-abbrev pub start_line : Contents → List (List ℕ)
-start_line c = basis_line (counts_of c) (starting_stand (form_of c))
+-- the text of a run
+abbrev pub run_text : Contents → Options → Record → Answer → List ℕ
+run_text c o told answer = text (run_lines (named_of c) o told answer)
 
--- the starting basis is optimal
-abbrev pub optimal_text : Contents → (ℕ → Fraction) → (ℕ → Fraction) → List ℕ
-optimal_text c x d =
-    text (head_lines (counts_of c) ++ (phase_line 2 ∷ (codes "answer" ∷ codes "optimal" ∷ []) ∷ (optimal_lines (optimal_of c x d) ++ start_line c ∷ [])))
+-- the first lines of a run in phase two, up to its answer, from the events of its walk
+abbrev pub begun_text : Contents → List Event → List ℕ
+begun_text c events =
+    text (head_lines (counts_of c)) ++ (line (phase_line 2) ++ flat_map (λ (e : Event). text (event_lines (names_of c) (counts_of c) e)) events)
 
--- no pivot is allowed
-abbrev pub limit_text : Contents → List ℕ
-limit_text c =
-    text (head_lines (counts_of c) ++ (phase_line 2 ∷ (codes "answer" ∷ codes "limit" ∷ decimal 0 ∷ []) ∷ start_line c ∷ []))
+-- the last lines of a run: values and reduced costs by variable with the basis that they are solved at
+abbrev pub optimal_text : Contents → (values reduced : List Fraction) → Basis → List ℕ
+optimal_text c values reduced b =
+    text (answer_line (codes "optimal" ∷ []) ∷ (optimal_lines (certificate_of (named_of c) (get values) (get reduced)) ++ basis_line (counts_of c) (stand_at b) ∷ []))
+
+-- the same at the limit: the count of pivots, and the basis
+abbrev pub limit_text : Contents → ℕ → Basis → List ℕ
+limit_text c count b = text (answer_line (codes "limit" ∷ decimal count ∷ []) ∷ basis_line (counts_of c) (stand_at b) ∷ [])
 
 abbrev pub bad_words_text : List ℕ
 bad_words_text = codes "bad words\n"

@@ -6,10 +6,11 @@
 
 mod print;
 mod run;
-mod start;
+mod solve;
 mod status;
 #[cfg(test)]
 mod tests;
+mod values;
 pub mod width_laws;
 mod words;
 

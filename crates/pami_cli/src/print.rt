@@ -1,57 +1,35 @@
-//! The texts of a model's starting basis, put line by line at the end of a list of bytes.
+//! The text of a run, put together from its events and from the lines of its answer.
 
-ghost use Rattle.std.specs.Prelude.{◌≡◌, ◌∷◌, [], ◌++◌, OnOk, decimal, codes, ◌<◌, ◌^◌, IfOk};
+ghost use Rattle.std.specs.Prelude.{◌≡◌, ◌<◌, ◌≤◌, ◌+◌, ◌∷◌, [], ◌++◌, IfOk, OnOk, decimal, codes, length, map, take, drop};
+ghost use Rattle.std.specs.List.{flat_map};
 ghost use Rattle.pami_frac.specs.Printed.{printed};
-ghost use Rattle.pami_model.specs.Rules.{stored_count};
+ghost use Rattle.pami_linear.specs.Lists.{get};
+ghost use Rattle.pami_model.specs.Rules.{names_of_columns, names_of_rows};
 ghost use Rattle.pami_model.specs.Contents.{contents};
-ghost use Rattle.pami_theory.specs.Form.{zero_f, cost_of};
+ghost use Rattle.pami_method.specs.Phases.{Answer, ray};
+ghost use Rattle.pami_chuzr.specs.Violation.{side_of};
+ghost use Rattle.pami_state.specs.State.{basis_of, stand_of};
 ghost use Rattle.pami_text.specs.Line.{line, text};
-ghost use Rattle.pami_text.specs.Answer.{head_lines, phase_line};
-ghost use Rattle.pami_cli.specs.Form.{form_of};
-ghost use Rattle.pami_cli.specs.Small.{IsSmall, column_text, row_text, same_letters, zero_certificate};
-ghost use Rattle.pami_cli.specs.Text.{counts_of, optimal_text, limit_text};
+ghost use Rattle.pami_text.specs.Answer.{letter, letters, objective_word, optimal_lines, valued_from, valued_line};
+ghost use Rattle.pami_text.specs.Record.{answer_lines, certificate_of, named_lines};
+ghost use Rattle.pami_log.specs.Events.{names_of, counts_of, event_lines, place_words};
+ghost use Rattle.pami_cli.specs.Text.{named_of, begun_text, optimal_text, limit_text};
 
+use crate::values::told_objective;
 use itoa::Buffer;
 use pami_frac::{Frac, OutOfMemory};
+use pami_log::{Event, Place, push_event, push_place};
 use pami_model::{Column, Model, Row};
+use pami_state::State;
+use pami_vec::{Side, SpVec, Stand};
 use std::alloc::Global;
 
-/// A word that is a whole number, with a blank or a line feed behind it.
-fn push_count(out: &mut Vec<u8>, count: usize, behind: u8) -> Result<(), OutOfMemory>
-    ensures { OnOk result (out.new.items ≡ out.old.items ++ decimal count ++ behind ∷ []) }
+/// A whole number.
+fn push_count(out: &mut Vec<u8>, count: u32) -> Result<(), OutOfMemory>
+    ensures { OnOk result (out.new.items ≡ out.old.items ++ decimal count) }
 {
     let mut digits = Buffer::new();
     out.extend_from_slice(digits.format(count).as_bytes())?;
-    out.push(behind)?;
-    Ok(())
-}
-
-/// The count of stored entries.
-fn stored_entries(columns: &[Column]) -> usize
-    requires { stored_count columns.now < 2 ^ 64 }
-    ensures { result ≡ stored_count columns.now }
-{
-    let mut count = 0;
-    for column in columns {
-        count += column.entries.as_slice().len();
-    }
-    count
-}
-
-/// The head of a text, and the beginning of phase two.
-fn push_head(
-    out: &mut Vec<u8>,
-    rows: usize,
-    columns: usize,
-    entries: usize,
-) -> Result<(), OutOfMemory>
-    ensures { OnOk result (out.new.items ≡ out.old.items ++ text (head_lines (record { rows = rows; columns = columns; entries = entries }) ++ phase_line 2 ∷ [])) }
-{
-    out.extend_from_slice(b"pami 1\nmodel ")?;
-    push_count(out, rows, b' ')?;
-    push_count(out, columns, b' ')?;
-    push_count(out, entries, b'\n')?;
-    out.extend_from_slice(b"phase 2\n")?;
     Ok(())
 }
 
@@ -76,109 +54,210 @@ fn push_valued(
     Ok(())
 }
 
-/// The lines of the columns, each with value 0 and its cost as its reduced cost.
-fn push_columns(out: &mut Vec<u8>, columns: &[Column]) -> Result<(), OutOfMemory>
-    ensures { OnOk result (out.new.items ≡ out.old.items ++ column_text columns.now) }
+/// The lines of the columns, whose values and reduced costs are the first of these.
+fn push_columns(
+    out: &mut Vec<u8>,
+    columns: &[Column],
+    values: &[Frac],
+    reduced: &[Frac],
+) -> Result<(), OutOfMemory>
+    requires values { length columns.now ≤ length values.now }
+    requires reduced { length reduced.now ≡ length values.now }
+    ensures { OnOk result (out.new.items ≡ out.old.items ++ text (map (valued_line (codes "x")) (valued_from 0 (names_of_columns columns.now) (get values.now) (get reduced.now)))) }
 {
-    let zero = Frac::zero();
-    for column in columns {
-        push_valued(out, b'x', column.name.as_slice(), &zero, &column.cost)?;
+    for (j, column) in columns.iter().enumerate() {
+        push_valued(out, b'x', column.name.as_slice(), &values[j], &reduced[j])?;
     }
     Ok(())
 }
 
-/// The lines of the rows, each with value and dual value 0.
-fn push_rows(out: &mut Vec<u8>, rows: &[Row]) -> Result<(), OutOfMemory>
-    ensures { OnOk result (out.new.items ≡ out.old.items ++ row_text rows.now) }
+/// The lines of the rows, whose values and reduced costs begin behind those of the columns.
+fn push_rows(
+    out: &mut Vec<u8>,
+    rows: &[Row],
+    columns: usize,
+    values: &[Frac],
+    reduced: &[Frac],
+) -> Result<(), OutOfMemory>
+    requires values { columns + length rows.now ≤ length values.now }
+    requires reduced { length reduced.now ≡ length values.now }
+    ensures { OnOk result (out.new.items ≡ out.old.items ++ text (map (valued_line (codes "r")) (valued_from columns (names_of_rows rows.now) (get values.now) (get reduced.now)))) }
 {
-    let zero = Frac::zero();
-    for row in rows {
-        push_valued(out, b'r', row.name.as_slice(), &zero, &zero)?;
+    for (i, row) in rows.iter().enumerate() {
+        let v = columns + i;
+        push_valued(out, b'r', row.name.as_slice(), &values[v], &reduced[v])?;
     }
     Ok(())
 }
 
-/// One letter for each of so many variables, or a dash for none.
-fn push_letters(out: &mut Vec<u8>, letter: u8, count: usize) -> Result<(), OutOfMemory>
-    ensures { OnOk result (out.new.items ≡ out.old.items ++ same_letters letter count) }
+/// The letter of a stand.
+fn letter_of(stand: Stand) -> u8
+    ensures { result ≡ letter (stand_of stand) }
 {
-    if count == 0 {
+    match stand {
+        Stand::Basic => b'B',
+        Stand::Lower => b'L',
+        Stand::Upper => b'U',
+        Stand::Zero => b'Z',
+    }
+}
+
+/// The letters of these stands, or a dash for none.
+fn push_letters(out: &mut Vec<u8>, stands: &[Stand]) -> Result<(), OutOfMemory>
+    ensures { OnOk result (out.new.items ≡ out.old.items ++ letters (map stand_of stands.now)) }
+{
+    if stands.len() == 0 {
         out.push(b'-')?;
         return Ok(());
     }
-    for _i in 0..count {
-        out.push(letter)?;
+    for stand in stands {
+        out.push(letter_of(*stand))?;
     }
     Ok(())
 }
 
-/// The line of the starting basis: every column at its lower bound, every row variable basic.
-fn push_basis(out: &mut Vec<u8>, columns: usize, rows: usize) -> Result<(), OutOfMemory>
-    ensures { OnOk result (out.new.items ≡ out.old.items ++ line (codes "basis" ∷ same_letters 76 columns ∷ same_letters 66 rows ∷ [])) }
+/// The line of a basis: the letters of the columns, which are the first of these stands, and those of the rows.
+fn push_basis(out: &mut Vec<u8>, columns: usize, stands: &[Stand]) -> Result<(), OutOfMemory>
+    requires { columns ≤ length stands.now }
+    ensures { OnOk result (out.new.items ≡ out.old.items ++ line (codes "basis" ∷ letters (map stand_of (take columns stands.now)) ∷ letters (map stand_of (drop columns stands.now)) ∷ [])) }
 {
+    let (first, rest) = stands.split_at(columns);
     out.extend_from_slice(b"basis ")?;
-    push_letters(out, b'L', columns)?;
+    push_letters(out, first)?;
     out.push(b' ')?;
-    push_letters(out, b'B', rows)?;
+    push_letters(out, rest)?;
     out.push(b'\n')?;
     Ok(())
 }
 
-/// The certificate of the starting basis: the objective is the constant.
-fn push_certificate(out: &mut Vec<u8>, model: &Model) -> Result<(), OutOfMemory>
-    ensures { OnOk result (out.new.items ≡ out.old.items ++ zero_certificate (contents model.now)) }
+/// The objective of a certificate.
+fn push_objective(out: &mut Vec<u8>, objective: Option<Frac>) -> Result<(), OutOfMemory>
+    ensures { OnOk result (out.new.items ≡ out.old.items ++ objective_word objective) }
 {
+    match objective {
+        Some(value) => value.append_to(out),
+        None => Ok(out.extend_from_slice(b"wide")?),
+    }
+}
+
+/// The certificate of values and reduced costs.
+fn push_certificate(
+    out: &mut Vec<u8>,
+    model: &Model,
+    values: &[Frac],
+    reduced: &[Frac],
+) -> Result<(), OutOfMemory>
+    requires values { length (contents model.now).columns + length (contents model.now).rows ≡ length values.now }
+    requires reduced { length reduced.now ≡ length values.now }
+    ensures { OnOk result (out.new.items ≡ out.old.items ++ text (optimal_lines (certificate_of (named_of (contents model.now)) (get values.now) (get reduced.now)))) }
+{
+    let columns = model.columns.as_slice();
     out.extend_from_slice(b"certificate 1 optimal\nobjective ")?;
-    model.constant.append_to(out)?;
+    push_objective(out, told_objective(model.constant, columns, values))?;
     out.push(b'\n')?;
-    push_columns(out, model.columns.as_slice())?;
-    push_rows(out, model.rows.as_slice())?;
+    push_columns(out, columns, values, reduced)?;
+    push_rows(out, model.rows.as_slice(), columns.len(), values, reduced)?;
     out.extend_from_slice(b"end\n")?;
     Ok(())
 }
 
-/// The head of the text of a model.
-fn push_model_head(out: &mut Vec<u8>, model: &Model) -> Result<(), OutOfMemory>
-    ensures { OnOk result (out.new.items ≡ out.old.items ++ text (head_lines (counts_of (contents model.now)) ++ phase_line 2 ∷ [])) }
+/// The last lines of a run that ended optimal: the values of all variables, and the last state.
+pub fn push_optimal(
+    out: &mut Vec<u8>,
+    model: &Model,
+    values: &[Frac],
+    state: &State,
+) -> Result<(), OutOfMemory>
+    requires values { length (contents model.now).columns + length (contents model.now).rows ≡ length values.now }
+    requires reduced { length state.now.reduced ≡ length values.now }
+    requires stands { length state.now.stands ≡ length values.now }
+    ensures { OnOk result (out.new.items ≡ out.old.items ++ optimal_text (contents model.now) values.now state.now.reduced (basis_of state.now)) }
 {
-    let columns = model.columns.as_slice();
-    push_head(
-        out,
-        model.rows.as_slice().len(),
-        columns.len(),
-        stored_entries(columns),
-    )
-}
-
-/// The whole text of a model of the small profile whose starting basis is optimal.
-pub fn optimal_answer(alloc: Global, model: &Model) -> Result<Vec<u8>, OutOfMemory>
-    requires { IsSmall (contents model.now) }
-    ensures { IfOk result (λ text. text.items ≡ optimal_text (contents model.now) (λ v. zero_f) (cost_of (form_of (contents model.now)))) }
-{
-    let mut out = Vec::new(alloc);
-    push_model_head(&mut out, model)?;
     out.extend_from_slice(b"answer optimal\n")?;
-    push_certificate(&mut out, model)?;
-    push_basis(
-        &mut out,
-        model.columns.as_slice().len(),
-        model.rows.as_slice().len(),
-    )?;
-    Ok(out)
+    push_certificate(out, model, values, state.reduced.as_slice())?;
+    push_basis(out, model.columns.as_slice().len(), state.stands.as_slice())
 }
 
-/// The whole text of a model of the small profile whose starting basis has an infeasible place.
-pub fn limit_answer(alloc: Global, model: &Model) -> Result<Vec<u8>, OutOfMemory>
-    requires { IsSmall (contents model.now) }
-    ensures { IfOk result (λ text. text.items ≡ limit_text (contents model.now)) }
+/// The last lines of a run that ended at the limit of pivots.
+pub fn push_limit(out: &mut Vec<u8>, model: &Model, state: &State) -> Result<(), OutOfMemory>
+    requires { length (contents model.now).columns + length (contents model.now).rows ≡ length state.now.stands }
+    ensures { OnOk result (out.new.items ≡ out.old.items ++ limit_text (contents model.now) state.now.pivots (basis_of state.now)) }
+{
+    out.extend_from_slice(b"answer limit ")?;
+    push_count(out, state.pivots)?;
+    out.push(b'\n')?;
+    push_basis(out, model.columns.as_slice().len(), state.stands.as_slice())
+}
+
+/// A member of the ray of a row without an entering variable: the row, turned so that the distance counts upward.
+fn ray_member(side: Side, row: &SpVec, i: u32) -> Frac
+    requires { i < length row.now }
+    ensures { result ≡ get (ray (side_of side) row.now) i }
+{
+    match side {
+        Side::Above => row.at(i),
+        Side::Below => row.at(i).negate(),
+    }
+}
+
+/// The lines of the rows, each with its member of the ray.
+fn push_ray(out: &mut Vec<u8>, rows: &[Row], side: Side, row: &SpVec) -> Result<(), OutOfMemory>
+    requires { length rows.now ≡ length row.now }
+    ensures { OnOk result (out.new.items ≡ out.old.items ++ text (named_lines (codes "r") 0 (names_of_rows rows.now) (get (ray (side_of side) row.now)))) }
+{
+    for i in 0..row.len() {
+        out.extend_from_slice(b"r ")?;
+        out.extend_from_slice(rows[i as usize].name.as_slice())?;
+        out.push(b' ')?;
+        ray_member(side, row, i).append_to(out)?;
+        out.push(b'\n')?;
+    }
+    Ok(())
+}
+
+/// The last lines of a run that ended at a row without an entering variable, whose variable is outside on this side.
+pub fn push_infeasible(
+    out: &mut Vec<u8>,
+    model: &Model,
+    side: Side,
+    row: &SpVec,
+) -> Result<(), OutOfMemory>
+    requires { length (contents model.now).rows ≡ length row.now }
+    ensures { OnOk result (out.new.items ≡ out.old.items ++ text (answer_lines (named_of (contents model.now)) (Answer.Infeasible (ray (side_of side) row.now)))) }
+{
+    out.extend_from_slice(b"answer infeasible\ncertificate 1 infeasible\n")?;
+    push_ray(out, model.rows.as_slice(), side, row)?;
+    out.extend_from_slice(b"end\n")?;
+    Ok(())
+}
+
+/// The last line of a run that ended at an operation that didn't fit.
+pub fn push_overflow(out: &mut Vec<u8>, place: &Place) -> Result<(), OutOfMemory>
+    ensures { OnOk result (out.new.items ≡ out.old.items ++ line (codes "answer" ∷ codes "overflow" ∷ place_words place.now)) }
+{
+    out.extend_from_slice(b"answer overflow")?;
+    push_place(out, place)?;
+    out.push(b'\n')?;
+    Ok(())
+}
+
+/// The lines of events.
+fn push_events(out: &mut Vec<u8>, model: &Model, events: &[Event]) -> Result<(), OutOfMemory>
+    ensures { OnOk result (out.new.items ≡ out.old.items ++ flat_map (λ e. text (event_lines (names_of (contents model.now)) (counts_of (contents model.now)) e)) events.now) }
+{
+    for event in events {
+        push_event(out, model, event)?;
+    }
+    Ok(())
+}
+
+/// The first lines of a run in phase two, from the events of its walk.
+pub fn begun(alloc: Global, model: &Model, events: &[Event]) -> Result<Vec<u8>, OutOfMemory>
+    ensures { IfOk result (λ out. out.items ≡ begun_text (contents model.now) events.now) }
 {
     let mut out = Vec::new(alloc);
-    push_model_head(&mut out, model)?;
-    out.extend_from_slice(b"answer limit 0\n")?;
-    push_basis(
-        &mut out,
-        model.columns.as_slice().len(),
-        model.rows.as_slice().len(),
-    )?;
+    push_event(&mut out, model, &Event::Header)?;
+    push_event(&mut out, model, &Event::Phase(2))?;
+    push_events(&mut out, model, events)?;
     Ok(out)
 }

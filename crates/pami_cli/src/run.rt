@@ -2,64 +2,28 @@
 
 ghost use Rattle.std.specs.Prelude.{◌≡◌, ◌<◌, ◌≤◌, ◌⊎◌, ℕ, List, [], ◌∷◌, Option, None, Some, IfOk};
 ghost use Rattle.pami_edge.specs.Outside.{Files, Rose, Grows};
-ghost use Rattle.pami_model.specs.Contents.{contents};
 ghost use Rattle.pami_cli.specs.declared.status.Status.{Status};
-ghost use Rattle.pami_cli.specs.Small.{IsSmall};
-ghost use Rattle.pami_cli.specs.Words.{file_of as named_file};
-ghost use Rattle.pami_cli.specs.Run.{Answers, AnswersModel, IsWrittenBy, Call, call, Ends, IsComplete, IsOrFault, AsksFor};
+ghost use Rattle.pami_cli.specs.Words.{Ask, ask_of as asked_by};
+ghost use Rattle.pami_cli.specs.Run.{Answers, IsWrittenBy, Call, call, Ends, IsComplete, IsOrFault, AsksFor};
 
-use crate::print::{limit_answer, optimal_answer};
-use crate::start::{has_infeasible_row, has_negative_cost};
+use crate::solve::{Answer, model_answer};
 use crate::status::Status;
-use crate::words::file_of;
+use crate::words::ask_of;
 use pami_edge::{ReadStop, Shelf, Sink, Word, read_whole, write_whole};
 use pami_frac::{Fault, OutOfMemory};
-use pami_model::Model;
 use pami_mps::read_mps;
 use std::alloc::Global;
 
 /// The greatest count of bytes that a file may have.
 const FILE_LIMIT: u32 = 16_777_216;
 
-/// A status and the whole text that goes with it.
-#[derive(Drop)]
-struct Answer {
-    status: Status,
-    text: Vec<u8>,
-}
-
-/// What a model of the small profile is answered while no pivot is allowed.
-fn model_answer(alloc: Global, model: &Model) -> Result<Answer, OutOfMemory>
-    requires { IsSmall (contents model.now) }
-    ensures { IfOk result (λ a. AnswersModel (contents model.now) a.status a.text.items) }
-{
-    if has_negative_cost(model.columns.as_slice()) {
-        let text = Vec::from_slice(alloc, b"needs phase one\n")?;
-        return Ok(Answer {
-            status: Status::NeedsPhaseOne,
-            text,
-        });
-    }
-    if has_infeasible_row(model.rows.as_slice()) {
-        let text = limit_answer(alloc, model)?;
-        return Ok(Answer {
-            status: Status::Limit,
-            text,
-        });
-    }
-    let text = optimal_answer(alloc, model)?;
-    Ok(Answer {
-        status: Status::Good,
-        text,
-    })
-}
-
 /// What the bytes of a file are answered.
-fn file_answer(alloc: Global, bytes: &[u8]) -> Result<Answer, OutOfMemory>
-    ensures { IfOk result (λ a. Answers bytes.now a.status a.text.items) }
+fn file_answer(alloc: Global, bytes: &[u8], limit: u32) -> Result<Answer, OutOfMemory>
+    requires { limit ≤ 1000000 }
+    ensures { IfOk result (λ a. Answers bytes.now limit a.status a.text.items) }
 {
     match read_mps(alloc, bytes) {
-        Ok(model) => model_answer(alloc, &model),
+        Ok(model) => model_answer(alloc, &model, limit),
         Err(Fault::Named(_)) => {
             let text = Vec::from_slice(alloc, b"refused\n")?;
             Ok(Answer {
@@ -90,14 +54,14 @@ fn run_words<S: Shelf, K: Sink>(alloc: Global, words: &[Word], shelf: &mut S, ou
     ensures shelf_faults { S.faults shelf.old < S.faults shelf.new → IsOrFault result Status.ReadFault }
     ensures sink_faults { K.faults out.old < K.faults out.new → result ≡ Status.WriteFault }
 {
-    let Some(file) = file_of(words) else {
+    let Some(asked) = ask_of(words) else {
         return finish(out, Status::Words, b"bad words\n");
     };
-    let Ok(name) = file.copy(alloc) else {
+    let Ok(name) = asked.file.copy(alloc) else {
         return Status::OutOfMemory;
     };
     match read_whole(alloc, shelf, name, FILE_LIMIT) {
-        Ok(bytes) => match file_answer(alloc, bytes.as_slice()) {
+        Ok(bytes) => match file_answer(alloc, bytes.as_slice(), asked.limit) {
             Ok(answer) => finish(out, answer.status, answer.text.as_slice()),
             Err(_) => Status::OutOfMemory,
         },
@@ -109,8 +73,8 @@ fn run_words<S: Shelf, K: Sink>(alloc: Global, words: &[Word], shelf: &mut S, ou
 
 /// Runs the words over a shelf that was asked for nothing yet, writes the answer to the sink and tells how it ended.
 ///
-/// The words `solve FILE` read the file, and answer on its model; all others are bad words. FILE is the one name that
-/// the shelf is asked for.
+/// The words `solve FILE [--limit K]` read the file and solve its model with at most K pivots; all others are bad words.
+/// FILE is the one name that the shelf is asked for.
 pub fn run_plain<S: Shelf, K: Sink>(
     alloc: Global,
     words: &[Word],
@@ -124,18 +88,18 @@ pub fn run_plain<S: Shelf, K: Sink>(
     ensures ends { Ends (call words.now (S.files shelf.old) (S.faults shelf.old) (S.faults shelf.new) (K.told out.old) (K.told out.new) (K.faults out.old) (K.faults out.new)) result }
 
     // Over a shelf that tells its files, the answer is exactly that of the definition on the bytes under FILE.
-    ensures exact { (files : Files) (name bytes written : List ℕ) (status : Status) →
-        S.files shelf.old ≡ Some files → files name ≡ Some bytes → named_file words.now ≡ Some name → Answers bytes status written →
+    ensures exact { (files : Files) (asked : Ask) (bytes written : List ℕ) (status : Status) →
+        S.files shelf.old ≡ Some files → files asked.file ≡ Some bytes → asked_by words.now ≡ Some asked → Answers bytes asked.limit status written →
         ((result ≡ status) × Grows (K.told out.old) (K.told out.new) written) ⊎ IsOrFault result Status.ReadFault }
 
     // Where no count of faults rose, the file is answered with a whole text, or memory ran out.
-    ensures complete { (name : List ℕ) → named_file words.now ≡ Some name
+    ensures complete { (asked : Ask) → asked_by words.now ≡ Some asked
         → (Rose (S.faults shelf.old) (S.faults shelf.new) → ⊥) → (Rose (K.faults out.old) (K.faults out.new) → ⊥)
         → IsComplete (call words.now (S.files shelf.old) (S.faults shelf.old) (S.faults shelf.new) (K.told out.old) (K.told out.new) (K.faults out.old) (K.faults out.new)) result }
 
     // The causes of the statuses that are no answers.
-    ensures words { named_file words.now ≡ None → (result ≡ Status.Words) ⊎ ((result ≡ Status.WriteFault) ⊎ (result ≡ Status.OutOfMemory)) }
-    ensures words_only { result ≡ Status.Words → named_file words.now ≡ None }
+    ensures words { asked_by words.now ≡ None → (result ≡ Status.Words) ⊎ ((result ≡ Status.WriteFault) ⊎ (result ≡ Status.OutOfMemory)) }
+    ensures words_only { result ≡ Status.Words → asked_by words.now ≡ None }
     ensures read_fault { result ≡ Status.ReadFault → Rose (S.faults shelf.old) (S.faults shelf.new) }
     ensures write_fault { result ≡ Status.WriteFault → Rose (K.faults out.old) (K.faults out.new) }
 

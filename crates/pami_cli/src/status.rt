@@ -18,8 +18,12 @@ pub enum Status {
     WriteFault,
     /// Memory ran out.
     OutOfMemory,
+    /// No point meets the model.
+    Infeasible,
     /// No more pivots were allowed.
     Limit,
+    /// A number didn't fit.
+    Overflow,
     /// The starting basis isn't dual feasible.
     NeedsPhaseOne,
 }
@@ -36,7 +40,9 @@ impl Status {
             Status::ReadFault => 4,
             Status::WriteFault => 5,
             Status::OutOfMemory => 6,
+            Status::Infeasible => 10,
             Status::Limit => 12,
+            Status::Overflow => 13,
             Status::NeedsPhaseOne => 30,
         }
     }

@@ -1,6 +1,7 @@
 //! Runs over shelves and sinks in memory. Every expected text and status is worked out from the format by hand.
 
 use super::run_plain;
+use super::words::ask_of;
 use pami_edge::{MemoryShelf, MemorySink, Word};
 use std::alloc::Global;
 use std::test::Fail;
@@ -26,20 +27,21 @@ fn words(alloc: Global, texts: &[&str]) -> Result<Vec<Word>, Fail> {
     Ok(words)
 }
 
-/// `solve m.mps` over a file of these bytes: the status's number and what was written.
-fn solved(alloc: Global, bytes: &[u8]) -> Result<(u8, Vec<u8>), Fail> {
+/// `solve m.mps` with this limit of pivots over a file of these bytes: the status's number and what was written.
+fn solved(alloc: Global, limit: &str, bytes: &[u8]) -> Result<(u8, Vec<u8>), Fail> {
     let mut shelf = MemoryShelf::new(alloc, 1 << 20, &[])?;
     shelf.add(alloc, word(alloc, "m.mps")?, bytes)?;
     let mut out = MemorySink::new(alloc, 1 << 20, 1 << 20, &[])?;
-    let words = words(alloc, &["solve", "m.mps"])?;
+    let words = words(alloc, &["solve", "m.mps", "--limit", limit])?;
     let status = run_plain(alloc, words.as_slice(), &mut shelf, &mut out);
     Ok((status.code(), out.bytes().to_vec(alloc)?))
 }
 
 const FIRST: &str = "NAME T|ROWS| N c| L c1| G c2|COLUMNS| x c 1 c1 2| x c2 1|RHS| c1 5|ENDATA|";
 
+/// Where no pivot is allowed.
 #[test]
-fn answers(rt: HostRuntime) -> Result<(), Fail> {
+fn answers_at_the_start(rt: HostRuntime) -> Result<(), Fail> {
     let alloc = rt.alloc();
     let rows = [
         (
@@ -91,7 +93,87 @@ fn answers(rt: HostRuntime) -> Result<(), Fail> {
         ),
     ];
     for (file, status, text) in rows {
-        let (code, written) = solved(alloc, lines(alloc, file)?.as_slice())?;
+        let (code, written) = solved(alloc, "0", lines(alloc, file)?.as_slice())?;
+        assert_eq!(rt; code, status, "status of {file}");
+        assert!(rt;
+            written.as_slice() == lines(alloc, text)?.as_slice(),
+            "text of {file}"
+        );
+    }
+    Ok(())
+}
+
+const TWO_ROWS: &str =
+    "NAME T|ROWS| N c| G c1| G c2|COLUMNS| x c 1 c1 10| x c2 1|RHS| c1 40 c2 6|ENDATA|";
+
+const SMALL_ENTRY: &str =
+    "NAME T|ROWS| N c| G c1| G c2|COLUMNS| x c 1 c1 10| x c2 1e-38|RHS| c1 100 c2 1|ENDATA|";
+
+/// Walks with pivots: each file, its limit of pivots, the status and the text.
+#[test]
+fn answers_behind_pivots(rt: HostRuntime) -> Result<(), Fail> {
+    let alloc = rt.alloc();
+    let rows = [
+        (
+            "NAME T|ROWS| N c| G c1|COLUMNS| x c 1 c1 1| y c 1 c1 1|RHS| c1 2|ENDATA|",
+            "100000",
+            0,
+            "pami 1|model 1 2 2|phase 2|major 1 full 0|pivot 1 0 r:c1 L x:x 1|answer optimal|certificate 1 optimal|objective 2|x x 2 0|x y 0 0|r c1 2 1|end|basis BL L|",
+        ),
+        (
+            "NAME T|ROWS| N c| G c1|COLUMNS| x c 1 c1 -1| y c 1 c1 -1|RHS| c1 2|ENDATA|",
+            "100000",
+            10,
+            "pami 1|model 1 2 2|phase 2|major 1 full 0|none 0 r:c1|answer infeasible|certificate 1 infeasible|r c1 1|end|",
+        ),
+        (
+            TWO_ROWS,
+            "100000",
+            0,
+            "pami 1|model 2 1 2|phase 2|major 1 full 0|pivot 1 0 r:c1 L x:x 1/10|major 2 full 1|pivot 2 1 r:c2 L r:c1 1|answer optimal|certificate 1 optimal|objective 6|x x 6 0|r c1 60 0|r c2 6 1|end|basis B BL|",
+        ),
+        // The limit is met between two pivots, and with the last one it isn't.
+        (
+            TWO_ROWS,
+            "1",
+            12,
+            "pami 1|model 2 1 2|phase 2|major 1 full 0|pivot 1 0 r:c1 L x:x 1/10|answer limit 1|basis B LB|",
+        ),
+        (
+            TWO_ROWS,
+            "2",
+            0,
+            "pami 1|model 2 1 2|phase 2|major 1 full 0|pivot 1 0 r:c1 L x:x 1/10|major 2 full 1|pivot 2 1 r:c2 L r:c1 1|answer optimal|certificate 1 optimal|objective 6|x x 6 0|r c1 60 0|r c2 6 1|end|basis B BL|",
+        ),
+        // An operation doesn't fit: the Full major is rolled back, and the Single one ends the walk.
+        (
+            SMALL_ENTRY,
+            "100000",
+            13,
+            "pami 1|model 2 1 2|phase 2|major 1 full 0|pivot 1 0 r:c1 L x:x 1/10|rollback 2 factor div 1/100000000000000000000000000000000000000 10|answer overflow factor div 1/100000000000000000000000000000000000000 10|",
+        ),
+        (
+            SMALL_ENTRY,
+            "1",
+            12,
+            "pami 1|model 2 1 2|phase 2|major 1 full 0|pivot 1 0 r:c1 L x:x 1/10|answer limit 1|basis B LB|",
+        ),
+        // A row leaves to its upper bound; two rows exclude each other behind a pivot.
+        (
+            "NAME T|ROWS| N c| E e| L l|COLUMNS| x c 2 e 3| x l 1| y c 1 e -1| y l 1|RHS| e -6 l 9|ENDATA|",
+            "100000",
+            0,
+            "pami 1|model 2 2 4|phase 2|major 1 full 0|pivot 1 0 r:e U x:y 1|answer optimal|certificate 1 optimal|objective 6|x x 0 5|x y 6 0|r e -6 -1|r l 6 0|end|basis LB UB|",
+        ),
+        (
+            "NAME T|ROWS| N c| L c1| G c2|COLUMNS| x c 1 c1 2| x c2 1|RHS| c1 5 c2 3|ENDATA|",
+            "100000",
+            10,
+            "pami 1|model 2 1 2|phase 2|major 1 full 1|pivot 1 1 r:c2 L x:x 1|major 2 full 0|none 0 r:c1|answer infeasible|certificate 1 infeasible|r c1 -1|r c2 2|end|",
+        ),
+    ];
+    for (file, limit, status, text) in rows {
+        let (code, written) = solved(alloc, limit, lines(alloc, file)?.as_slice())?;
         assert_eq!(rt; code, status, "status of {file}");
         assert!(rt;
             written.as_slice() == lines(alloc, text)?.as_slice(),
@@ -118,7 +200,7 @@ fn accepts_what_the_layout_leaves_free(rt: HostRuntime) -> Result<(), Fail> {
         "ROWS| L c1| N c| G c2|COLUMNS| x c2 1 c1 2| x c 1|RHS| set c1 5 c 0|ENDATA|",
     ];
     for file in rows {
-        let (code, written) = solved(alloc, lines(alloc, file)?.as_slice())?;
+        let (code, written) = solved(alloc, "0", lines(alloc, file)?.as_slice())?;
         assert_eq!(rt; code, 0, "status of {file}");
         assert!(rt; written.as_slice() == text.as_slice(), "text of {file}");
     }
@@ -190,7 +272,7 @@ fn refuses_each_broken_rule(rt: HostRuntime) -> Result<(), Fail> {
         "ROWS| N c| N d|COLUMNS|RHS| d 1e20|ENDATA|",
     ];
     for file in rows {
-        let (code, written) = solved(alloc, lines(alloc, file)?.as_slice())?;
+        let (code, written) = solved(alloc, "0", lines(alloc, file)?.as_slice())?;
         assert_eq!(rt; code, 3, "status of {file}");
         assert!(rt; written.as_slice() == refused.as_slice(), "text of {file}");
     }
@@ -227,8 +309,45 @@ fn takes_names_rows_and_columns_up_to_the_limits(rt: HostRuntime) -> Result<(), 
         for _ in 0..behind {
             file.push(b'.')?;
         }
-        let (code, _written) = solved(alloc, file.as_slice())?;
+        let (code, _written) = solved(alloc, "0", file.as_slice())?;
         assert_eq!(rt; code, status, "{name} {more_rows} {columns} {behind}");
+    }
+    Ok(())
+}
+
+#[test]
+fn words_of_solve(rt: HostRuntime) -> Result<(), Fail> {
+    let alloc = rt.alloc();
+    let rows: [(&[&str], &str, u32); 19] = [
+        (&["solve", "m.mps"], "m.mps", 100_000),
+        (&["solve", "-"], "-", 100_000),
+        (&["solve", "solve"], "solve", 100_000),
+        (&["solve", "--", "m.mps"], "m.mps", 100_000),
+        (&["solve", "m.mps", "--"], "m.mps", 100_000),
+        (&["solve", "--", "-m.mps"], "-m.mps", 100_000),
+        (&["solve", "--", "--"], "--", 100_000),
+        (&["solve", "--", "--limit=5"], "--limit=5", 100_000),
+        (&["solve", "--limit", "5", "m.mps"], "m.mps", 5),
+        (&["solve", "m.mps", "--limit", "5"], "m.mps", 5),
+        (&["solve", "--limit=5", "m.mps"], "m.mps", 5),
+        (&["solve", "m.mps", "--limit=5"], "m.mps", 5),
+        (&["solve", "--limit", "5", "--", "--limit"], "--limit", 5),
+        (&["solve", "--limit=5", "-", "--"], "-", 5),
+        (&["solve", "--limit", "0", "7"], "7", 0),
+        (&["solve", "m.mps", "--limit", "0000000005"], "m.mps", 5),
+        (&["solve", "m.mps", "--limit=0000000000"], "m.mps", 0),
+        (
+            &["solve", "m.mps", "--limit", "0001000000"],
+            "m.mps",
+            1_000_000,
+        ),
+        (&["solve", "m.mps", "--limit=1000000"], "m.mps", 1_000_000),
+    ];
+    for (texts, file, limit) in rows {
+        let words = words(alloc, texts)?;
+        let asked = ask_of(words.as_slice()).expect(&rt, "words of the table");
+        assert!(rt; asked.file.is(file.as_bytes()), "FILE {file}");
+        assert_eq!(rt; asked.limit, limit, "limit of {file}");
     }
     Ok(())
 }
@@ -237,16 +356,62 @@ fn takes_names_rows_and_columns_up_to_the_limits(rt: HostRuntime) -> Result<(), 
 fn words_outside_the_table(rt: HostRuntime) -> Result<(), Fail> {
     let alloc = rt.alloc();
     let bad = lines(alloc, "bad words|")?;
-    let rows: [&[&str]; 9] = [
+    let rows: [&[&str]; 51] = [
         &[],
         &["solve"],
         &["m.mps"],
         &["check", "m.mps"],
         &["Solve", "m.mps"],
+        &["solv", "m.mps"],
+        &["m.mps", "solve"],
+        &["--", "solve", "m.mps"],
+        &["--limit", "5", "solve", "m.mps"],
+        // FILE: none, two, empty, or like an option.
         &["solve", ""],
         &["solve", "-m.mps"],
         &["solve", "--"],
+        &["solve", "--limit", "5"],
+        &["solve", "--limit=5"],
+        &["solve", "--limit", "m.mps"],
         &["solve", "m.mps", "m.mps"],
+        &["solve", "m.mps", "--limit", "5", "m.mps"],
+        &["solve", "m.mps", "--", "m.mps"],
+        &["solve", "m.mps", ""],
+        &["solve", "--", ""],
+        &["solve", "m.mps", "--", ""],
+        &["solve", "--", "--", "--"],
+        &["solve", "--", "m.mps", "--limit", "5"],
+        // The option: twice, without its value, or with an empty one.
+        &["solve", "m.mps", "--limit", "5", "--limit", "5"],
+        &["solve", "--limit=5", "m.mps", "--limit", "5"],
+        &["solve", "m.mps", "--limit"],
+        &["solve", "--limit", "--", "m.mps"],
+        &["solve", "m.mps", "--limit", ""],
+        &["solve", "m.mps", "--limit="],
+        &["solve", "m.mps", "--limit=", "5"],
+        &["solve", "m.mps", "--limit", "=5"],
+        // The value: a sign, other bytes, too many digits, too large.
+        &["solve", "m.mps", "--limit", "-5"],
+        &["solve", "m.mps", "--limit=-5"],
+        &["solve", "m.mps", "--limit", "-"],
+        &["solve", "m.mps", "--limit", "+5"],
+        &["solve", "m.mps", "--limit", "5.0"],
+        &["solve", "m.mps", "--limit", " 5"],
+        &["solve", "m.mps", "--limit==5"],
+        &["solve", "m.mps", "--limit", "00000000005"],
+        &["solve", "m.mps", "--limit=00000000005"],
+        &["solve", "m.mps", "--limit", "1000001"],
+        &["solve", "m.mps", "--limit=1000001"],
+        &["solve", "m.mps", "--limit", "4294967301"],
+        &["solve", "m.mps", "--limit", "9999999999"],
+        // No abbreviations, and no other options.
+        &["solve", "m.mps", "--lim", "5"],
+        &["solve", "m.mps", "--limits", "5"],
+        &["solve", "m.mps", "--Limit", "5"],
+        &["solve", "m.mps", "-limit", "5"],
+        &["solve", "m.mps", "-l", "5"],
+        &["solve", "m.mps", "--help"],
+        &["solve", "--version"],
     ];
     for texts in rows {
         let mut shelf = MemoryShelf::new(alloc, 64, &[])?;

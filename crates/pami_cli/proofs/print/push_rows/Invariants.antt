@@ -1,6 +1,11 @@
-use Rattle.std.proofs.Common.{◌≡◌, ◌++◌, take}
-use Rattle.pami_cli.specs.Small.{row_text}
+use Rattle.std.proofs.Common.{◌≡◌, ◌++◌, ◌+◌, codes, drop, map}
+use Rattle.pami_linear.specs.Lists.{get}
+use Rattle.pami_model.specs.Rules.{names_of_rows}
+use Rattle.pami_text.specs.Line.{text}
+use Rattle.pami_text.specs.Answer.{valued_from, valued_line}
 use Rattle.pami_cli.proofs.print.push_rows.Given as goal
 
-abbrev pub invariant-loop-row : goal.invariant-loop-row
-invariant-loop-row l = l.out.items ≡ l.initial.out.items ++ row_text (take l.row-index l.rows)
+abbrev pub invariant-loop-i : goal.invariant-loop-i
+invariant-loop-i l =
+    l.initial.out.items ++ text (map (valued_line (codes "r")) (valued_from l.fn.columns (names_of_rows l.rows) (get l.values) (get l.reduced)))
+    ≡ l.out.items ++ text (map (valued_line (codes "r")) (valued_from (l.fn.columns + l.i) (names_of_rows (drop l.i l.rows)) (get l.values) (get l.reduced)))

@@ -1,0 +1,60 @@
+-- A model has one answer: one status and one text.
+use Rattle.std.proofs.Common.{◌≡◌, ℕ, ◌⊎◌, inl, inr, List, None, Some, sym, ap, ◌∙◌, subst}
+use Rattle.pami_frac.specs.declared.arithmetic.Refused.{Refused}
+use Rattle.pami_model.specs.Contents.{Contents}
+use Rattle.pami_theory.specs.Form.{Form}
+use Rattle.pami_theory.specs.Fresh.{Fresh, IsFresh, IsDualFeasible}
+use Rattle.pami_theory.specs.Start.{starting_basis}
+use Rattle.pami_theory.proofs.Starts.{start_is_basis}
+use Rattle.pami_theory.proofs.Solved.{only_fresh}
+use Rattle.pami_method.specs.Walk.{Options}
+use Rattle.pami_method.specs.Phases.{Phase, Record, Answer, Optimal, Infeasible, DualInfeasible, Limit, Overflow, IsRun, refused_start, in_phase_two, refused_boxes, in_phase_one, dual_infeasible, refused_switch, in_both, start_refused}
+use Rattle.pami_method.proofs.Runs.{run_only}
+use Rattle.pami_cli.specs.declared.status.Status.{Status}
+use Rattle.pami_cli.specs.Form.{form_of}
+use Rattle.pami_cli.specs.Text.{run_text}
+use Rattle.pami_cli.specs.Answer.{options_of, HasStatus, AnswersRun, AnswersPhaseOne, AnswersModel}
+
+-- an answer has one status
+one_status : (a : Answer) (s t : Status) → HasStatus a s → HasStatus a t → s ≡ t
+one_status (Optimal st x) s t h k = h ∙ sym k
+one_status (Infeasible y) s t h k = h ∙ sym k
+one_status (DualInfeasible st x) s t h k = absurd h
+one_status (Limit st) s t h k = h ∙ sym k
+one_status (Overflow r) s t h k = h ∙ sym k
+
+same_run : (c : Contents) (limit : ℕ) (s t : Status) (w v : List ℕ) (a : AnswersRun c limit s w) (b : AnswersRun c limit t v) → (a.told ≡ b.told) × (a.answer ≡ b.answer) → (s ≡ t) × (w ≡ v)
+same_run c limit s t w v a b e = (
+  one_status b.answer s t (subst (λ x. HasStatus x s) e.1 a.has_status) b.has_status,
+  a.written_is ∙ ap (λ told. run_text c (options_of limit) told a.answer) e.0 ∙ ap (run_text c (options_of limit) b.told) e.1 ∙ sym b.written_is,
+)
+
+-- a run without phase one is refused at its start, or begins dual feasible
+abbrev pub StartsSo : Form → Type 0
+StartsSo f = (s : Fresh) × IsFresh f (starting_basis f) s × (((refused : Refused) × (start_refused f s ≡ Some refused)) ⊎ IsDualFeasible f (starting_basis f))
+
+some_phase : {p : Phase} {A : Type 0} → Some p ≡ None → A
+some_phase e = absurd cc
+
+starts_so : (f : Form) (o : Options) (told : Record) (a : Answer) → IsRun f o told a → told.phase_one ≡ None → StartsSo f
+starts_so f o _ _ (refused_start s refused h e) n = (s, h, inl (refused, e))
+starts_so f o _ _ (in_phase_two s majors end answer h e d walk is) n = (s, h, inr d)
+starts_so f o _ _ (refused_boxes s t refused h e d boxed r) n = some_phase n
+starts_so f o _ _ (in_phase_one s majors end answer h e d one early) n = some_phase n
+starts_so f o _ _ (dual_infeasible s t majors st h e d one not boxed) n = some_phase n
+starts_so f o _ _ (refused_switch s majors st b t refused h e d one switch r) n = some_phase n
+starts_so f o _ _ (in_both s majors st b t later end answer h e d one switch r walk is) n = some_phase n
+
+some_refused : {r : Refused} {A : Type 0} → Some r ≡ None → A
+some_refused e = absurd cc
+
+no_phase_one : (c : Contents) (t : Status) (v : List ℕ) → StartsSo (form_of c) → AnswersPhaseOne c t v → ⊥
+no_phase_one c t v (s, h, inl (refused, e)) b =
+    some_refused (sym e ∙ ap (start_refused (form_of c)) (only_fresh (form_of c) (starting_basis (form_of c)) s b.start (start_is_basis (form_of c)) h b.fresh) ∙ b.fits)
+no_phase_one c t v (s, h, inr d) b = b.not_dual_feasible d
+
+pub one_model_answer : (c : Contents) (limit : ℕ) (s t : Status) (w v : List ℕ) → AnswersModel c limit s w → AnswersModel c limit t v → (s ≡ t) × (w ≡ v)
+one_model_answer c limit s t w v (inl a) (inl b) = same_run c limit s t w v a b (run_only (form_of c) (options_of limit) a.told b.told a.answer b.answer a.run b.run)
+one_model_answer c limit s t w v (inl a) (inr b) = absurd (no_phase_one c t v (starts_so (form_of c) (options_of limit) a.told a.answer a.run a.without_phase_one) b)
+one_model_answer c limit s t w v (inr a) (inl b) = absurd (no_phase_one c s w (starts_so (form_of c) (options_of limit) b.told b.answer b.run b.without_phase_one) a)
+one_model_answer c limit s t w v (inr a) (inr b) = (a.status_is ∙ sym b.status_is, a.written_is ∙ sym b.written_is)

@@ -1,0 +1,35 @@
+-- The objective's sum, where a loop has come to a column.
+use Rattle.std.proofs.Common.{◌≡◌, ℕ, zero, suc, ◌+◌, ◌-◌, ◌<◌, List, [], ◌∷◌, length, None, Some, Result, Ok, Err, refl, sym, ap, ◌∙◌, arith, nat_eq, get_or}
+use Rattle.std.proofs.lemmas.Bool.{cond-false, ne_eqb}
+use Rattle.pami_algebra.specs.Fraction.{Fraction}
+use Rattle.pami_frac.specs.declared.arithmetic.Refused.{Refused}
+use Rattle.pami_script.specs.Script.{each}
+use Rattle.pami_script.proofs.Loops.{each_goes, each_stops}
+use Rattle.pami_text.specs.Record.{kept_or_none}
+use Rattle.pami_cli.specs.Form.{member}
+
+-- a member that was read
+pub member_read : {X A : Type 0} (f : X → A) (d : A) (xs : List X) (i : ℕ) (x : X) → i < length xs → x ≡ get_or xs i x → f x ≡ member f d xs i
+member_read f d [] i x l e = absurd (omega arith)
+member_read f d (y ∷ xs) zero x l e = ap f e
+member_read f d (y ∷ xs) (suc i) x l e =
+    let k : suc i - 1 ≡ i = omega arith in
+    member_read f d xs i x (omega arith) e
+    ∙ ap (member f d xs) (sym k)
+    ∙ sym (cond-false (nat_eq (suc i) 0) (f y) _ (ne_eqb (suc i) 0 (λ h. absurd (omega (arith, h)))))
+
+-- a result that is kept, or not
+pub kept_is : (r : Result Fraction Refused) (x : Fraction) → Some x ≡ kept_or_none r → r ≡ Ok x
+kept_is (Ok y) x e = cc
+kept_is (Err r) x e = absurd cc
+
+pub kept_not : (r : Result Fraction Refused) → None ≡ kept_or_none r → (e : Refused) × (r ≡ Err e)
+kept_not (Ok y) e = absurd cc
+kept_not (Err r) e = (r, refl)
+
+-- a loop over n columns that has come to j, where a refusal tells none
+pub sum_stops : (s : Result Fraction Refused) (n j : ℕ) (step : ℕ → Fraction → Result Fraction Refused) (t : Fraction) → s ≡ each (n - j) j step t → j < n → None ≡ kept_or_none (step j t) → None ≡ kept_or_none s
+sum_stops s n j step t h l e = let k = kept_not (step j t) e in ap kept_or_none (each_stops s n j step t k.0 h l k.1)
+
+pub sum_goes : (s : Result Fraction Refused) (n j : ℕ) (step : ℕ → Fraction → Result Fraction Refused) (t next : Fraction) → s ≡ each (n - j) j step t → j < n → Some next ≡ kept_or_none (step j t) → s ≡ each (n - (j + 1)) (j + 1) step next
+sum_goes s n j step t next h l e = each_goes s n j step t next h l (kept_is (step j t) next e)

@@ -1,0 +1,24 @@
+use Rattle.std.proofs.Common.{refl, ap, sym, ◌∙◌, ◌++◌}
+use Rattle.std.proofs.lemmas.Result.{on_ok_weaker}
+use Rattle.pami_linear.specs.Lists.{get}
+use Rattle.pami_model.specs.Contents.{contents}
+use Rattle.pami_theory.specs.Basis.{stand_at}
+use Rattle.pami_state.specs.State.{basis_of}
+use Rattle.pami_text.specs.Line.{text}
+use Rattle.pami_text.specs.Answer.{optimal_lines, basis_line}
+use Rattle.pami_text.specs.Record.{certificate_of}
+use Rattle.pami_log.specs.Events.{counts_of}
+use Rattle.pami_cli.specs.Text.{named_of}
+use Rattle.pami_cli.proofs.Lines.{optimal_joined, basis_printed}
+use Rattle.pami_cli.proofs.print.push_optimal.Goals as goal
+
+pub returns : goal.returns
+returns c =
+    let m = contents c.args.model.now in
+    let b = basis_of c.args.state.now in
+    on_ok_weaker c.push_basis.result
+    (λ p. optimal_joined c.args.out.now.items _ _ c.push_basis.new.out.items (optimal_lines (certificate_of (named_of m) (get c.args.values.now) (get c.args.state.now.reduced))) (basis_line (counts_of m) (stand_at b))
+    c.in_ok-extend_from_slice.ensures.items
+    (c.in_ok-push_certificate.ensures ∙ ap (λ d. c.extend_from_slice.new.self.items ++ text (optimal_lines (certificate_of (named_of m) (get c.args.values.now) (get d)))) c.as_slice.ensures)
+    (p ∙ ap (λ z. c.push_certificate.new.out.items ++ z) (basis_printed m b c.args.state.now.stands c.as_slice-3.result.now c.as_slice-2.result.now refl (c.requires.values ∙ sym c.requires.stands) c.as_slice-3.ensures c.as_slice-2.ensures)))
+    c.push_basis.ensures
