@@ -1,9 +1,10 @@
-//! Major iterations of one row: the parts of one, from the choice of the row to the state behind its pivot.
+//! Majors of one row, and the walk that they make.
 //!
 //! Stands on `pami_chuzr`, `pami_factor`, `pami_price` and `pami_bfrt` for the choice, the solves, the pivot row and the
-//! ratio walk, on `pami_state` for the state, and on `pami_form` for the form. Each part follows a chain of scripts over
-//! the program's lists, and names the script of the first operation that doesn't fit. The lemmas of `proofs/` tie these
-//! chains to the scripts of `pami_method`, and what is worked out to what the next basis has.
+//! ratio walk, on `pami_state` for the state, on `pami_form` for the form and on `pami_log` for what is told. The layer above
+//! relies on `drive`: from a state that is dual feasible and solved afresh it is the walk of `pami_method`, with its events and
+//! its end. Inside, each part follows a chain of scripts over the program's lists, and the lemmas of `proofs/` tie these
+//! chains to the scripts and steps of the whole form.
 #![tactic(auto)]
 
 mod behind;
