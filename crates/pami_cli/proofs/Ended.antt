@@ -69,7 +69,7 @@ module _ (c : Contents) (limit : ℕ) (can : CanWalk (form_of c)) (events : List
       (e ∙ ap (λ b. begun_text c events ++ limit_text c last.pivots b) (sym t.2) ∙ ap (λ n. begun_text c events ++ limit_text c n t.0.basis) (sym t.3))
 
   infeasible_end : (place : ℕ) (side : ToldSide) (rho : List Fraction) (end : walk.WalkEnd) → IsTold (ends.NoEntering place side rho) last end → (p : ℕ) × (end ≡ walk.NoEntering p (side_of side) rho)
-  infeasible_end place side rho (walk.NoEntering p s row) h = (p, ap (λ x. walk.NoEntering p x row) h.0 ∙ ap (walk.NoEntering p (side_of side)) h.1)
+  infeasible_end place side rho (walk.NoEntering p s row) h = (p, ap (λ x. walk.NoEntering p x row) h.1 ∙ ap (walk.NoEntering p (side_of side)) h.2)
   infeasible_end place side rho (walk.Optimal st) h = absurd h
   infeasible_end place side rho (walk.Limit st) h = absurd h
   infeasible_end place side rho (walk.Overflow refused) h = absurd h

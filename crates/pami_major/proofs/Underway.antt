@@ -33,7 +33,7 @@ use Rattle.pami_log.specs.declared.event.Event.TheVariants as told
 use Rattle.pami_log.specs.Events.{told_place, major_event, refused_events, events_by, events_after, events_of}
 use Rattle.pami_major.specs.Ready.{form_of, IsReady}
 use Rattle.pami_major.specs.Within.{IsWithinAt, AreWithin, IsSomeOutside}
-use Rattle.pami_major.specs.Walks.{options_by, mode_by, walk_state, IsKept, IsStuck, IsRefused, Majored, IsUnderway, majors_left, IsWalkedWhole, FollowsTurn, IsOnward, FollowsEnd}
+use Rattle.pami_major.specs.Walks.{options_by, mode_by, walk_state, IsKept, IsStuck, IsRefused, Majored, IsUnderway, majors_left, IsWalkedWhole, FollowsTurn, IsOnward, FollowsEnd, state_by, last_state}
 use Rattle.pami_major.specs.declared.options.Options.{Options}
 use Rattle.pami_major.specs.declared.one_row.MajorEnd.{MajorEnd}
 use Rattle.pami_major.specs.declared.one_row.MajorEnd.TheVariants as majors
@@ -105,7 +105,7 @@ begins form o first r = record {
   ready = r;
   history = None;
   worn = refl;
-  rest = λ gs end w. (gs, w, refl);
+  rest = λ gs end w. (gs, w, refl, refl);
 }
 
 pub optimal_ends : (form : Form) (o : Options) (first : method.State) (st : State) (mode : Mode) (number : ℕ) (events : List Event) → IsUnderway form o first st mode number events
@@ -115,7 +115,7 @@ optimal_ends form o first st mode number events u w =
     let last = walk_state st u.history in
     let all = u.rest [] (method.Optimal last) (refl, (s, u.ready.solved.solved, none_outside form o.limit st s u.ready u.ready.solved.solved w)) in
     record {
-      walked = record { majors = all.0; end = method.Optimal last; walk = all.1; told_end = refl; told_events = sym (all.2 ∙ append-nil events) };
+      walked = record { majors = all.0; end = method.Optimal last; walk = all.1; told_end = refl; told_state = (u.history, all.3); told_events = sym (all.2 ∙ append-nil events) };
       ready = u.ready;
       row = tt;
     }
@@ -127,7 +127,7 @@ limit_ends form o first st mode number events u w e =
     let last = walk_state st u.history in
     let all = u.rest [] (method.Limit last) (refl, e, (s, u.ready.solved.solved, some_outside form o.limit st s u.ready u.ready.solved.solved w)) in
     record {
-      walked = record { majors = all.0; end = method.Limit last; walk = all.1; told_end = (refl, refl); told_events = sym (all.2 ∙ append-nil events) };
+      walked = record { majors = all.0; end = method.Limit last; walk = all.1; told_end = (refl, refl); told_state = (u.history, all.3); told_events = sym (all.2 ∙ append-nil events) };
       ready = u.ready;
       row = tt;
     }
@@ -165,6 +165,7 @@ kept_goes form o first old mode number events new event u k =
                 ∙ ap (λ (a : method.After). events ++ (major_event f o.limit k.major ∷ events_after a (λ t. events_of f p t gs))) k.goes
                 ∙ ap (λ (e : Event). events ++ (e ∷ events_of f p next gs)) (sym k.told)
                 ∙ sym (append_assoc events (event ∷ []) (events_of f p next gs)),
+            all.3 ∙ ap (λ (a : method.After). state_by a st (λ t. last_state f p t gs)) k.goes,
           );
     }
 
@@ -200,6 +201,7 @@ rolled_back form o first old number events place u r =
                 ∙ ap (λ n. events ++ (told.Rollback n (told_place r.refused) ∷ events_of f p st gs)) r.due.numbered
                 ∙ ap (λ (x : Place). events ++ (told.Rollback number x ∷ events_of f p st gs)) (sym r.told)
                 ∙ sym (append_assoc events (told.Rollback number place ∷ []) (events_of f p st gs)),
+            all.3 ∙ ap (λ (a : method.After). state_by a st (λ t. last_state f p t gs)) goes,
           );
     }
 
@@ -221,6 +223,7 @@ overflow_ends form o first old number events place u r =
         end = end;
         walk = all.1;
         told_end = r.told;
+        told_state = (u.history, all.3 ∙ ap (λ (a : method.After). state_by a st (λ t. last_state f p t [])) goes);
         told_events = sym (
             all.2
             ∙ ap (λ (x : Option RefusedAt). events ++ (events_by f o.limit r.major x ++ events_after (method.after f p st r.major) (λ t. events_of f p t []))) r.is_refused
@@ -249,7 +252,8 @@ stuck_ends form o first old mode number events event place side rho u k =
         majors = all.0;
         end = end;
         walk = all.1;
-        told_end = (refl, refl);
+        told_end = (refl, refl, refl);
+        told_state = (u.history, all.3 ∙ ap (λ (a : method.After). state_by a st (λ t. last_state f p t [])) k.ends);
         told_events = sym (
             all.2
             ∙ ap (λ (x : Option RefusedAt). events ++ (events_by f o.limit k.major x ++ events_after (method.after f p st k.major) (λ t. events_of f p t []))) k.fits

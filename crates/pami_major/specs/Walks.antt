@@ -87,16 +87,26 @@ Majored form o number mode old h (majors.Refused same place) = (same ≡ old) ×
 abbrev pub IsTold : WalkEnd → State → method.WalkEnd → Type 0
 IsTold ends.Optimal last (method.Optimal st) = st.basis ≡ basis_of last
 IsTold ends.Limit last (method.Limit st) = (st.basis ≡ basis_of last) × (st.count ≡ last.pivots)
-IsTold (ends.NoEntering place side rho) last (method.NoEntering p s row) = (s ≡ side_of side) × (row ≡ rho)
+IsTold (ends.NoEntering place side rho) last (method.NoEntering p s row) = (p ≡ place) × (s ≡ side_of side) × (row ≡ rho)
 IsTold (ends.Overflow place) last (method.Overflow refused) = place ≡ told_place refused
 IsTold told last end = ⊥
 
--- a walk from this state on, with its majors, that ends so and has these events
+-- the state behind the majors of a walk: that of the last one that was kept, or the first state where none was
+abbrev pub state_by : method.After → method.State → (method.State → method.State) → method.State
+state_by (method.Ends end) st later = st
+state_by (method.GoesOn mode next) st later = later next
+
+abbrev pub last_state : theory.Form → method.Options → method.State → List method.Major → method.State
+last_state f o st [] = st
+last_state f o st (g ∷ gs) = state_by (method.after f o st g) st (λ next. last_state f o next gs)
+
+-- a walk from this state on, with its majors, that ends so, in this last state, and has these events
 pub record IsWalked (f : theory.Form) (o : method.Options) (first : method.State) (told : WalkEnd) (last : State) (events : List Event) : Type 0 where
   pub majors : List method.Major
   pub end : method.WalkEnd
   pub walk : method.IsWalk f o 1 method.Full first majors end
   pub told_end : IsTold told last end
+  pub told_state : (h : Option History) × (last_state f o first majors ≡ walk_state last h)
   pub told_events : events ≡ events_of f o first majors
 
 -- ---- a walk on its way
@@ -109,6 +119,7 @@ pub record IsUnderway (form : Form) (o : Options) (first : method.State) (state 
   pub rest : (gs : List method.Major) (end : method.WalkEnd) → method.IsWalk (form_of form) (options_by o) number (mode_by mode) (walk_state state history) gs end
       → (all : List method.Major) × method.IsWalk (form_of form) (options_by o) 1 method.Full first all end
       × (events_of (form_of form) (options_by o) first all ≡ events ++ events_of (form_of form) (options_by o) (walk_state state history) gs)
+      × (last_state (form_of form) (options_by o) first all ≡ last_state (form_of form) (options_by o) (walk_state state history) gs)
 
 -- how many majors may still be tried: two for each pivot that is left, and one where the next is Full
 abbrev pub majors_left : ℕ → State → Mode → ℕ
