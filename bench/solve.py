@@ -33,7 +33,8 @@ def median_of(words, runs, folder):
                        stderr=subprocess.DEVNULL)
         with open(kept) as file:
             return json.load(file)["results"][0]["median"]
-    return statistics.median(first_run(words)[0] for _ in range(runs))
+    seconds = [run[0] for run in (first_run(words) for _ in range(runs)) if run]
+    return statistics.median(seconds) if seconds else TOO_LONG
 
 
 def measured(words, runs, folder):
@@ -87,7 +88,7 @@ def equal(left, right):
 
 
 # Each solver: its name, its package, its words for a model and a file of its solution, the objective that it wrote
-# there, and how far that has to agree: glpsol solves with exact numbers, but prints ten digits.
+# there, and how far that has to agree: glpsol solves with exact numbers, but prints few digits.
 OTHERS = [
     ("glpsol", "glpk-utils", lambda model, out: ["glpsol", "--exact", "--freemps", model, "-o", out], glpsol_value, near),
     ("esolver", "qsopt-ex", lambda model, out: ["esolver", "-O", out, model], esolver_value, equal),
@@ -109,12 +110,15 @@ def main(program, folder, runs):
         head += " %8s %6s" % (name, "ratio")
     print(head + "  answer")
     differences = 0
+    unexpected = 0
     for name, rows, columns, entries in models.write_all(folder):
         model = "%s/%s.mps" % (folder, name)
         ours = measured([program, "solve", model], runs, folder)
         answer, value, pivots = pami_answer(ours[1]) if ours else (["stopped"], None, 0)
         line = "%-19s %4d %7d %7d %6d %8s" % (name, rows, columns, entries, pivots, "%.3f" % ours[0] if ours else "> %d" % TOO_LONG)
         told = [" ".join(answer[:2]) if answer[0] == "overflow" else answer[0]]
+        # Each model has an optimum, and no cost below 0.
+        unexpected += answer[0] not in ("optimal", "overflow", "limit", "stopped")
         for other, _, words, value_of, agrees in present:
             out = "%s/%s.%s" % (folder, name, other)
             theirs = measured(words(model, out), runs, folder)
@@ -129,7 +133,9 @@ def main(program, folder, runs):
         print("%s  %s" % (line, ", ".join(told)), flush=True)
     if differences:
         print("\n%d objective values differ" % differences)
-    return 1 if differences else 0
+    if unexpected:
+        print("\n%d answers can't be" % unexpected)
+    return 1 if differences or unexpected else 0
 
 
 if __name__ == "__main__":

@@ -121,7 +121,7 @@ pub record IsUnderway (form : Form) (o : Options) (first : method.State) (state 
       × (events_of (form_of form) (options_by o) first all ≡ events ++ events_of (form_of form) (options_by o) (walk_state state history) gs)
       × (last_state (form_of form) (options_by o) first all ≡ last_state (form_of form) (options_by o) (walk_state state history) gs)
 
--- how many majors may still be tried: two for each pivot that is left, and one where the next is Full
+-- what falls with each major that is tried: two for each pivot that is left, and one more where the next major is Full
 abbrev pub majors_left : ℕ → State → Mode → ℕ
 majors_left limit state modes.Full = 2 * (limit - state.pivots) + 1
 majors_left limit state modes.Single = 2 * (limit - state.pivots)

@@ -143,8 +143,8 @@ fn turn<L>(
 }
 
 /// Walks from a state without a factor: majors of one row, until no place is infeasible, the limit of pivots is met, a row
-/// has no entering variable, or an operation of a Single major doesn't fit. Each major that isn't kept is followed by one
-/// that is or by the end, so at most twice the pivots that are left and two majors are tried.
+/// has no entering variable, or an operation of a Single major doesn't fit. A kept major takes a pivot, and one that is rolled
+/// back is followed by a Single one, so the limit ends every walk.
 ///
 /// # Errors
 ///
