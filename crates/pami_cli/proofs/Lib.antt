@@ -5,6 +5,7 @@ pub mod Lines
 pub mod Objectives
 pub mod Listed
 pub mod Narrow
+pub mod FileStarts
 pub mod Started
 pub mod Ended
 pub mod Begun

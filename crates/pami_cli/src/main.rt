@@ -4,6 +4,7 @@
 //! theorem from bytes to bytes; `main` hands it the files and the output of the machine.
 #![tactic(auto)]
 
+pub mod file_laws;
 mod print;
 mod run;
 mod solve;
@@ -11,7 +12,6 @@ mod status;
 #[cfg(test)]
 mod tests;
 mod values;
-pub mod width_laws;
 mod words;
 
 use pami_edge::{RealShelf, RealSink, Word};
