@@ -1,3 +1,5 @@
 pub mod Walked
 pub mod Priced
 pub mod Rows
+pub mod Products
+pub mod LaidOut

@@ -1,8 +1,9 @@
 //! Pricing: the entries of the pivot row, by slices of 64 variables.
 //!
-//! Stands on `pami_vec`, whose `dot` gives one entry, and on `pami_method`, whose script a slice follows. The layers above may
-//! rely on a slice having exactly the entries of its nonbasic variables that aren't 0, ascending, on its refusal being
-//! the first of that script, and on slices not depending on each other.
+//! Stands on `pami_vec`, whose script of a sum of products gives one entry, and on `pami_method`, whose script a slice
+//! follows. The layers above may rely on a slice having exactly the entries of its nonbasic variables that aren't 0,
+//! ascending, on its refusal being the first of that script, on slices not depending on each other, and on the work of a
+//! call being in proportion to its variables, the rows, and the entries of its nonbasic columns.
 #![tactic(auto)]
 
 mod price;

@@ -1,10 +1,11 @@
 //! The entries of one slice, and of all slices one after the other.
 
-ghost use Rattle.std.specs.Prelude.{◌≡◌, ◌<◌, ◌^◌, ◌*◌, ◌+◌, ℕ, length};
+ghost use Rattle.std.specs.Prelude.{◌≡◌, ◌<◌, ◌^◌, ◌*◌, ◌+◌, ℕ, length, IfOk};
+ghost use Rattle.pami_vec.specs.Scripts.{dot_script};
 ghost use Rattle.pami_price.specs.Slices.{column_at, is_nonbasic, slice_size, slice_script, row_script};
 ghost use Rattle.pami_price.specs.Follow.{FollowsEntries, FollowsOnto, in_slice};
 
-use pami_frac::{Entry, Fault, Refused};
+use pami_frac::{Entry, Fault, Frac, OutOfMemory, Refused};
 use pami_vec::{SpVec, Stand};
 use std::alloc::Global;
 
@@ -36,12 +37,58 @@ fn slice_size(count: usize, slice: usize) -> usize
     if 64 < left { 64 } else { left }
 }
 
+/// All members of a row, zeros too: a column finds its members of the row by place, at a cost of its own entries alone.
+///
+/// # Errors
+///
+/// `OutOfMemory` alone.
+fn laid_out(alloc: Global, row: &SpVec) -> Result<Vec<Frac>, OutOfMemory>
+    ensures { IfOk result (λ members. members.items ≡ row.now) }
+{
+    let entries = row.entries();
+    let mut members = Vec::new(alloc);
+    let mut next = 0;
+    for place in 0..row.len() {
+        if next < entries.len() && entries[next].place == place {
+            members.push(entries[next].value)?;
+            next += 1;
+        } else {
+            members.push(Frac::zero())?;
+        }
+    }
+    Ok(members)
+}
+
+/// The row times a column: `rho` goes by row. The places where the column has no entry are left out.
+///
+/// # Errors
+///
+/// The first operation of the script over all places that doesn't fit.
+fn entry_of(rho: &[Frac], column: &SpVec) -> Result<Frac, Refused>
+    requires { length column.now ≡ length rho.now }
+    ensures { result ≡ dot_script rho.now column.now }
+{
+    let entries = column.entries();
+    let mut total = Frac::zero();
+    for entry in entries {
+        let product = match rho[entry.place as usize].mul(entry.value) {
+            Ok(product) => product,
+            Err(refused) => return Err(refused),
+        };
+        total = match total.add(product) {
+            Ok(sum) => sum,
+            Err(refused) => return Err(refused),
+        };
+    }
+    Ok(total)
+}
+
 /// Puts the entries of a slice behind those that are there.
 fn price_onto(
     out: &mut Vec<Entry>,
     columns: &[SpVec],
     stands: &[Stand],
-    rho: &SpVec,
+    rho: &[Frac],
     slice: usize,
 ) -> Result<(), Fault<Refused>>
     requires same { length columns.now ≡ length stands.now }
@@ -54,7 +101,7 @@ fn price_onto(
     let last = first + slice_size(columns.len(), slice);
     for v in first..last {
         if is_nonbasic(stands[v]) {
-            let alpha = match rho.dot(&columns[v]) {
+            let alpha = match entry_of(rho, &columns[v]) {
                 Ok(alpha) => alpha,
                 Err(refused) => return Err(Fault::Named(refused)),
             };
@@ -89,8 +136,9 @@ pub fn price_slice(
     requires exists { 64 * slice < length columns.now }
     ensures { FollowsEntries (slice_script columns.now stands.now rho.now slice) result }
 {
+    let by_row = laid_out(alloc, rho)?;
     let mut out = Vec::new(alloc);
-    match price_onto(&mut out, columns, stands, rho, slice as usize) {
+    match price_onto(&mut out, columns, stands, by_row.as_slice(), slice as usize) {
         Ok(()) => Ok(out),
         Err(fault) => Err(fault),
     }
@@ -124,9 +172,10 @@ pub fn price_all(
     requires few { length columns.now < 2 ^ 32 }
     ensures { FollowsEntries (row_script columns.now stands.now rho.now) result }
 {
+    let by_row = laid_out(alloc, rho)?;
     let mut out = Vec::new(alloc);
     for slice in 0..(columns.len() + 63) / 64 {
-        match price_onto(&mut out, columns, stands, rho, slice) {
+        match price_onto(&mut out, columns, stands, by_row.as_slice(), slice) {
             Ok(()) => {}
             Err(fault) => return Err(in_slice(slice as u32, fault)),
         }

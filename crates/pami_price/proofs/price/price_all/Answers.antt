@@ -1,6 +1,7 @@
-use Rattle.std.proofs.Common.{sym, subst, Err}
-use Rattle.pami_price.specs.Slices.{row_script}
-use Rattle.pami_price.specs.Follow.{FollowsEntries}
+use Rattle.std.proofs.Common.{◌∙◌, ◌≡◌, List, sym, subst, Err, Ok}
+use Rattle.pami_algebra.specs.Fraction.{Fraction}
+use Rattle.pami_price.specs.Slices.{row_script, slice_script}
+use Rattle.pami_price.specs.Follow.{FollowsEntries, FollowsOnto, onto}
 use Rattle.pami_price.proofs.Walked.{slice_goes, fault_follows}
 use Rattle.pami_price.proofs.price.price_all.Goals as goal
 
@@ -8,9 +9,13 @@ pub returns-in-Err : goal.returns-in-Err
 returns-in-Err c =
     subst (λ e. FollowsEntries (row_script c.args.columns.now c.args.stands.now c.args.rho.now) (Err e)) (sym c.in_slice.ensures)
     (fault_follows c.args.columns.now c.args.stands.now c.args.rho.now c.loop-slice.slice c.loop-slice.out.items c.price_onto.new.out.items c.in-Err.fault (row_script c.args.columns.now c.args.stands.now c.args.rho.now)
-    c.loop-slice.invariant c.loop-slice-test.true c.in-Err.ensures)
+    c.loop-slice.invariant c.loop-slice-test.true
+    (subst (λ (rho : List Fraction). FollowsOnto {A = Unit {0}} (slice_script c.args.columns.now c.args.stands.now rho c.loop-slice.slice) c.loop-slice.out.items c.price_onto.new.out.items (Err c.in-Err.fault))
+    (c.as_slice.ensures.value ∙ c.in_ok-by_row.ensures) c.in-Err.ensures))
 
 pub loop-slice-preserved : goal.loop-slice-preserved
 loop-slice-preserved c =
     slice_goes c.args.columns.now c.args.stands.now c.args.rho.now c.loop-slice.slice c.loop-slice.out.items c.price_onto.new.out.items (row_script c.args.columns.now c.args.stands.now c.args.rho.now)
-    c.loop-slice.invariant c.loop-slice-test.true c.in-Ok.ensures
+    c.loop-slice.invariant c.loop-slice-test.true
+    (subst (λ (rho : List Fraction). onto c.loop-slice.out.items (slice_script c.args.columns.now c.args.stands.now rho c.loop-slice.slice) ≡ Ok c.price_onto.new.out.items)
+    (c.as_slice.ensures.value ∙ c.in_ok-by_row.ensures) c.in-Ok.ensures)
