@@ -27,14 +27,16 @@ fn words(alloc: Global, texts: &[&str]) -> Result<Vec<Word>, Fail> {
     Ok(words)
 }
 
-/// `solve m.mps` with these options over a file of these bytes: the status's number and what was written.
-fn solved(alloc: Global, options: &[&str], bytes: &[u8]) -> Result<(u8, Vec<u8>), Fail> {
+/// `solve m.mps` with this limit of pivots, or with none given where it is empty, over a file of these bytes: the status's
+/// number and what was written.
+fn solved(alloc: Global, limit: &str, bytes: &[u8]) -> Result<(u8, Vec<u8>), Fail> {
     let mut shelf = MemoryShelf::new(alloc, 1 << 20, &[])?;
     shelf.add(alloc, word(alloc, "m.mps")?, bytes)?;
     let mut out = MemorySink::new(alloc, 1 << 20, 1 << 20, &[])?;
     let mut words = words(alloc, &["solve", "m.mps"])?;
-    for option in options {
-        words.push(word(alloc, option)?)?;
+    if !limit.is_empty() {
+        words.push(word(alloc, "--limit")?)?;
+        words.push(word(alloc, limit)?)?;
     }
     let status = run_plain(alloc, words.as_slice(), &mut shelf, &mut out);
     Ok((status.code(), out.bytes().to_vec(alloc)?))
@@ -96,7 +98,7 @@ fn answers_at_the_start(rt: HostRuntime) -> Result<(), Fail> {
         ),
     ];
     for (file, status, text) in rows {
-        let (code, written) = solved(alloc, &["--limit=0"], lines(alloc, file)?.as_slice())?;
+        let (code, written) = solved(alloc, "0", lines(alloc, file)?.as_slice())?;
         assert_eq!(rt; code, status, "status of {file}");
         assert!(rt;
             written.as_slice() == lines(alloc, text)?.as_slice(),
@@ -112,71 +114,71 @@ const TWO_ROWS: &str =
 const SMALL_ENTRY: &str =
     "NAME T|ROWS| N c| G c1| G c2|COLUMNS| x c 1 c1 10| x c2 1e-38|RHS| c1 100 c2 1|ENDATA|";
 
-/// Walks with pivots: each file, the options, the status and the text.
+/// Walks with pivots: each file, its limit where one is given, the status and the text.
 #[test]
 fn answers_behind_pivots(rt: HostRuntime) -> Result<(), Fail> {
     let alloc = rt.alloc();
-    let rows: [(&str, &[&str], u8, &str); 9] = [
+    let rows = [
         (
             "NAME T|ROWS| N c| G c1|COLUMNS| x c 1 c1 1| y c 1 c1 1|RHS| c1 2|ENDATA|",
-            &[],
+            "",
             0,
             "pami 1|model 1 2 2|phase 2|major 1 full 0|pivot 1 0 r:c1 L x:x 1|answer optimal|certificate 1 optimal|objective 2|x x 2 0|x y 0 0|r c1 2 1|end|basis BL L|",
         ),
         (
             "NAME T|ROWS| N c| G c1|COLUMNS| x c 1 c1 -1| y c 1 c1 -1|RHS| c1 2|ENDATA|",
-            &[],
+            "",
             10,
             "pami 1|model 1 2 2|phase 2|major 1 full 0|none 0 r:c1|answer infeasible|certificate 1 infeasible|r c1 1|end|",
         ),
         (
             TWO_ROWS,
-            &[],
+            "",
             0,
             "pami 1|model 2 1 2|phase 2|major 1 full 0|pivot 1 0 r:c1 L x:x 1/10|major 2 full 1|pivot 2 1 r:c2 L r:c1 1|answer optimal|certificate 1 optimal|objective 6|x x 6 0|r c1 60 0|r c2 6 1|end|basis B BL|",
         ),
         // The limit is met between two pivots, and with the last one it isn't.
         (
             TWO_ROWS,
-            &["--limit=1"],
+            "1",
             12,
             "pami 1|model 2 1 2|phase 2|major 1 full 0|pivot 1 0 r:c1 L x:x 1/10|answer limit 1|basis B LB|",
         ),
         (
             TWO_ROWS,
-            &["--limit", "2"],
+            "2",
             0,
             "pami 1|model 2 1 2|phase 2|major 1 full 0|pivot 1 0 r:c1 L x:x 1/10|major 2 full 1|pivot 2 1 r:c2 L r:c1 1|answer optimal|certificate 1 optimal|objective 6|x x 6 0|r c1 60 0|r c2 6 1|end|basis B BL|",
         ),
         // An operation doesn't fit: the Full major is rolled back, and the Single one ends the walk.
         (
             SMALL_ENTRY,
-            &[],
+            "",
             13,
             "pami 1|model 2 1 2|phase 2|major 1 full 0|pivot 1 0 r:c1 L x:x 1/10|rollback 2 factor div 1/100000000000000000000000000000000000000 10|answer overflow factor div 1/100000000000000000000000000000000000000 10|",
         ),
         (
             SMALL_ENTRY,
-            &["--limit=1"],
+            "1",
             12,
             "pami 1|model 2 1 2|phase 2|major 1 full 0|pivot 1 0 r:c1 L x:x 1/10|answer limit 1|basis B LB|",
         ),
         // A row leaves to its upper bound; two rows exclude each other behind a pivot.
         (
             "NAME T|ROWS| N c| E e| L l|COLUMNS| x c 2 e 3| x l 1| y c 1 e -1| y l 1|RHS| e -6 l 9|ENDATA|",
-            &[],
+            "",
             0,
             "pami 1|model 2 2 4|phase 2|major 1 full 0|pivot 1 0 r:e U x:y 1|answer optimal|certificate 1 optimal|objective 6|x x 0 5|x y 6 0|r e -6 -1|r l 6 0|end|basis LB UB|",
         ),
         (
             "NAME T|ROWS| N c| L c1| G c2|COLUMNS| x c 1 c1 2| x c2 1|RHS| c1 5 c2 3|ENDATA|",
-            &[],
+            "",
             10,
             "pami 1|model 2 1 2|phase 2|major 1 full 1|pivot 1 1 r:c2 L x:x 1|major 2 full 0|none 0 r:c1|answer infeasible|certificate 1 infeasible|r c1 -1|r c2 2|end|",
         ),
     ];
-    for (file, options, status, text) in rows {
-        let (code, written) = solved(alloc, options, lines(alloc, file)?.as_slice())?;
+    for (file, limit, status, text) in rows {
+        let (code, written) = solved(alloc, limit, lines(alloc, file)?.as_slice())?;
         assert_eq!(rt; code, status, "status of {file}");
         assert!(rt;
             written.as_slice() == lines(alloc, text)?.as_slice(),
@@ -203,7 +205,7 @@ fn accepts_what_the_layout_leaves_free(rt: HostRuntime) -> Result<(), Fail> {
         "ROWS| L c1| N c| G c2|COLUMNS| x c2 1 c1 2| x c 1|RHS| set c1 5 c 0|ENDATA|",
     ];
     for file in rows {
-        let (code, written) = solved(alloc, &["--limit=0"], lines(alloc, file)?.as_slice())?;
+        let (code, written) = solved(alloc, "0", lines(alloc, file)?.as_slice())?;
         assert_eq!(rt; code, 0, "status of {file}");
         assert!(rt; written.as_slice() == text.as_slice(), "text of {file}");
     }
@@ -275,7 +277,7 @@ fn refuses_each_broken_rule(rt: HostRuntime) -> Result<(), Fail> {
         "ROWS| N c| N d|COLUMNS|RHS| d 1e20|ENDATA|",
     ];
     for file in rows {
-        let (code, written) = solved(alloc, &["--limit=0"], lines(alloc, file)?.as_slice())?;
+        let (code, written) = solved(alloc, "0", lines(alloc, file)?.as_slice())?;
         assert_eq!(rt; code, 3, "status of {file}");
         assert!(rt; written.as_slice() == refused.as_slice(), "text of {file}");
     }
@@ -312,7 +314,7 @@ fn takes_names_rows_and_columns_up_to_the_limits(rt: HostRuntime) -> Result<(), 
         for _ in 0..behind {
             file.push(b'.')?;
         }
-        let (code, _written) = solved(alloc, &["--limit=0"], file.as_slice())?;
+        let (code, _written) = solved(alloc, "0", file.as_slice())?;
         assert_eq!(rt; code, status, "{name} {more_rows} {columns} {behind}");
     }
     Ok(())
