@@ -66,13 +66,6 @@ sub_add_f p q = by_ring_f (p ∷ q ∷ []) (var 0 ⊕ ⊖ (var 1) ⊕ var 1) (va
 pub add_sub_f : (p q : Fraction) → (p +ᶠ q) -ᶠ q ≡ p
 add_sub_f p q = by_ring_f (p ∷ q ∷ []) (var 0 ⊕ var 1 ⊕ ⊖ (var 1)) (var 0) refl
 
-pub neg_sub_f : (p q : Fraction) → neg_f (p -ᶠ q) ≡ q -ᶠ p
-neg_sub_f p q = by_ring_f (p ∷ q ∷ []) (⊖ (var 0 ⊕ ⊖ (var 1))) (var 1 ⊕ ⊖ (var 0)) refl
-
--- equal sums with one summand equal
-pub cancel_add_f : (p q r : Fraction) → p +ᶠ r ≡ q +ᶠ r → p ≡ q
-cancel_add_f p q r e = sym (add_sub_f p r) ∙ ap (λ z. z -ᶠ r) e ∙ add_sub_f q r
-
 -- a difference is 0 where its two sides are equal
 pub sub_zero_f : (p q : Fraction) → p -ᶠ q ≡ of_int (pos 0) → p ≡ q
 sub_zero_f p q e = sym (sub_add_f p q) ∙ ap (λ z. z +ᶠ q) e ∙ nil_add_f q
@@ -101,9 +94,6 @@ zero_or_not p = go p.num refl
 -- ---- quotients, by what isn't 0
 pub inv_mul_f : (p : Fraction) → ¬ (p ≡ of_int (pos 0)) → inv_f p *ᶠ p ≡ of_int (pos 1)
 inv_mul_f p h = mul_comm_f (inv_f p) p ∙ mul_inv_f p h
-
-pub div_self_f : (p : Fraction) → ¬ (p ≡ of_int (pos 0)) → p /ᶠ p ≡ of_int (pos 1)
-div_self_f = mul_inv_f
 
 -- what isn't 0 can be multiplied and divided away
 pub mul_div_f : (p r : Fraction) → ¬ (r ≡ of_int (pos 0)) → (p *ᶠ r) /ᶠ r ≡ p
@@ -140,12 +130,6 @@ pub inv_unique_f : (p q : Fraction) → p *ᶠ q ≡ of_int (pos 1) → q ≡ in
 inv_unique_f p q e =
     let h : ¬ (p ≡ of_int (pos 0)) = left_of_one_f p q e in
     cancel_mul_f q (inv_f p) p h (mul_comm_f q p ∙ e ∙ sym (inv_mul_f p h))
-
-pub inv_not_zero_f : (p : Fraction) → ¬ (p ≡ of_int (pos 0)) → ¬ (inv_f p ≡ of_int (pos 0))
-inv_not_zero_f p h = left_of_one_f (inv_f p) p (inv_mul_f p h)
-
-pub inv_one_f : inv_f (of_int (pos 1)) ≡ of_int (pos 1)
-inv_one_f = sym (inv_unique_f (of_int (pos 1)) (of_int (pos 1)) (mul_one_f (of_int (pos 1))))
 
 -- these three hold at 0 too, where the inverse is 0
 pub inv_inv_f : (p : Fraction) → inv_f (inv_f p) ≡ p

@@ -19,8 +19,9 @@ use Rattle.pami_theory.proofs.Members.{Has}
 use Rattle.pami_theory.proofs.Orders.{Apart, ordered_permutes}
 use Rattle.pami_theory.proofs.Comparisons.{then_by, then_by_either, EitherFirst}
 use Rattle.pami_theory.proofs.Candidates.{apart_distinct}
-use Rattle.pami_vec.specs.declared.violation.Side.{Side}
-use Rattle.pami_bfrt.specs.Candidates.{Table, turned, is_candidate, candidate_of, candidate_script, with_candidate, candidates_script, comes_before}
+use Rattle.pami_theory.specs.declared.words.Side.{Side}
+use Rattle.pami_theory.specs.Ratio.{toward}
+use Rattle.pami_bfrt.specs.Candidates.{Table, is_candidate, candidate_of, candidate_script, with_candidate, candidates_script, comes_before}
 use Rattle.pami_bfrt.specs.declared.candidate.Candidate.{Candidate}
 
 -- ---- variables that rise
@@ -59,11 +60,11 @@ only_it t v a found false o e low cs h k = let same : None ≡ found = cc in sub
 script_rises : (t : Table) (side : Side) (es : List Entry) (low high : ℕ) (cs : List Candidate) → Rising low high es → candidates_script t side es ≡ Ok cs → Rise low cs
 script_rises t side [] low high cs r e = let same : [] ≡ cs = cc in subst (Rise low) same tt
 script_rises t side (x ∷ es) low high cs r e =
-    let h = then_ok (candidate_script t x.place (turned side x.value)) (λ c. then (candidates_script t side es) (λ cs. Ok (with_candidate c cs))) cs e in
+    let h = then_ok (candidate_script t x.place (toward side x.value)) (λ c. then (candidates_script t side es) (λ cs. Ok (with_candidate c cs))) cs e in
     let g = then_ok (candidates_script t side es) (λ cs. Ok (with_candidate h.0 cs)) cs h.1.1 in
     let same : with_candidate h.0 g.0 ≡ cs = cc (g.1.1) in
     subst (Rise low) same
-    (only_it t x.place (turned side x.value) h.0 (is_candidate t x.place (turned side x.value)) (div_outcome (get t.reduced x.place) (turned side x.value)) h.1.0 low g.0 r.0
+    (only_it t x.place (toward side x.value) h.0 (is_candidate t x.place (toward side x.value)) (div_outcome (get t.reduced x.place) (toward side x.value)) h.1.0 low g.0 r.0
     (script_rises t side es (suc x.place) high g.0 r.2 g.1.0))
 
 pub script_distinct : (t : Table) (side : Side) (es : List Entry) (high : ℕ) (cs : List Candidate) → Rising 0 high es → candidates_script t side es ≡ Ok cs → IsDistinct (ties comes_before) cs

@@ -23,12 +23,11 @@ use Rattle.pami_theory.proofs.Comparisons.{walk_is_order}
 use Rattle.pami_theory.proofs.Candidates.{walk_rises}
 use Rattle.pami_theory.proofs.Slopes.{walk_down_is}
 use Rattle.pami_method.specs.Scripts.{slope_at, slope_script, ratios_script, ratio_script}
-use Rattle.pami_vec.specs.declared.violation.Violation.{Violation}
+use Rattle.pami_theory.specs.declared.words.Violation.{Violation}
 use Rattle.pami_bfrt.specs.Candidates.{Table, comes_before}
 use Rattle.pami_bfrt.specs.Walks.{positive_only, slope_behind, flips_first, passed, walk_over, walk_script}
-use Rattle.pami_bfrt.specs.Agreement.{violation_of, IsTable, AreRowEntries}
+use Rattle.pami_bfrt.specs.Agreement.{IsTable, AreRowEntries}
 use Rattle.pami_bfrt.specs.declared.candidate.Candidate.{Candidate}
-use Rattle.pami_bfrt.proofs.Tested.{positive_same}
 use Rattle.pami_bfrt.proofs.Matched.{exactly, candidates_are}
 
 -- ---- the order
@@ -81,8 +80,7 @@ by_difference : (f : Form) (l : Leaving) (v : ℕ) (vs : List ℕ) (slope fall e
     then (then o (λ next. Ok (positive_only next))) (λ left. passed (exactly f l v) left (walk_over (map (exactly f l) vs)))
     ≡ then (then o (λ next. cond (is_below zero_f next) (slope_script f l vs next) (Ok next))) (λ s. Ok (cond (is_at_most exact zero_f) (Some (enters f l v)) (option_map (flips_first (v ∷ [])) (finds f l exact vs))))
 by_difference f l v vs slope fall exact (Ok next) h e =
-    ap (λ (t : Bool). passed (exactly f l v) (cond t (Some next) None) (walk_over (map (exactly f l) vs))) (positive_same next)
-    ∙ behind_slope f l v vs next h (is_below zero_f next) refl
+    behind_slope f l v vs next h (is_below zero_f next) refl
     ∙ ap (λ x. then (cond (is_below zero_f next) (slope_script f l vs next) (Ok next)) (λ s. Ok (cond (is_at_most x zero_f) (Some (enters f l v)) (option_map (flips_first (v ∷ [])) (finds f l x vs))))) (e next refl)
 by_difference f l v vs slope fall exact (Err d) h e = refl
 
@@ -158,7 +156,7 @@ onto_ratios : (s : Result (List Fraction) Refused) (g : Result Fraction Refused)
 onto_ratios (Ok rs) g x cs w h = h
 onto_ratios (Err e) g x cs w h = refl
 
-pub walk_is : (f : Form) (b : Basis) (l : Leaving) (t : Table) (alpha : List Entry) (violation : Violation) → IsTable f b l t → AreRowEntries f b l alpha → l.violation ≡ violation_of violation →
+pub walk_is : (f : Form) (b : Basis) (l : Leaving) (t : Table) (alpha : List Entry) (violation : Violation) → IsTable f b l t → AreRowEntries f b l alpha → l.violation ≡ violation →
     walk_script t alpha violation ≡ then (ratio_script f b l) (λ slope. Ok (ratio_walk f b l))
 walk_is f b l t alpha violation m r s =
     let vs = filter (is_candidate f b l) (range_with_len 0 (variables f)) in
@@ -178,10 +176,10 @@ ends_err : (s : Result Fraction Refused) (x : Option Entering) (r : Refused) →
 ends_err (Ok y) x r e = absurd (cc)
 ends_err (Err d) x r e = let same : d ≡ r = cc in ap (λ q. Err q) same
 
-pub walk_found : (f : Form) (b : Basis) (l : Leaving) (t : Table) (alpha : List Entry) (violation : Violation) (found : Option Entering) → IsTable f b l t → AreRowEntries f b l alpha → l.violation ≡ violation_of violation →
+pub walk_found : (f : Form) (b : Basis) (l : Leaving) (t : Table) (alpha : List Entry) (violation : Violation) (found : Option Entering) → IsTable f b l t → AreRowEntries f b l alpha → l.violation ≡ violation →
     walk_script t alpha violation ≡ Ok found → found ≡ ratio_walk f b l
 walk_found f b l t alpha violation found m r s e = ends_ok (ratio_script f b l) (ratio_walk f b l) found (sym (walk_is f b l t alpha violation m r s) ∙ e)
 
-pub walk_refused : (f : Form) (b : Basis) (l : Leaving) (t : Table) (alpha : List Entry) (violation : Violation) (d : Refused) → IsTable f b l t → AreRowEntries f b l alpha → l.violation ≡ violation_of violation →
+pub walk_refused : (f : Form) (b : Basis) (l : Leaving) (t : Table) (alpha : List Entry) (violation : Violation) (d : Refused) → IsTable f b l t → AreRowEntries f b l alpha → l.violation ≡ violation →
     walk_script t alpha violation ≡ Err d → ratio_script f b l ≡ Err d
 walk_refused f b l t alpha violation d m r s e = ends_err (ratio_script f b l) (ratio_walk f b l) d (sym (walk_is f b l t alpha violation m r s) ∙ e)

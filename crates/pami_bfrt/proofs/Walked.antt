@@ -1,7 +1,7 @@
 -- The walk from candidate to candidate, with the flips that were made.
-use Rattle.std.proofs.Common.{◌≡◌, ℕ, ◌+◌, ◌<◌, ◌≤◌, List, [], ◌∷◌, ◌++◌, length, drop, get_or, Option, None, Some, Result, Ok, Err, refl, sym, ap, ◌∙◌}
+use Rattle.std.proofs.Common.{◌≡◌, ℕ, ◌+◌, ◌<◌, List, [], ◌∷◌, ◌++◌, length, drop, get_or, Option, None, Some, Result, Ok, Err, refl, sym, ap, ◌∙◌}
 use Rattle.std.specs.Option.{option_map}
-use Rattle.std.proofs.lemmas.List.{append_assoc, append-nil, at_drop_more, drop_all}
+use Rattle.std.proofs.lemmas.List.{append_assoc, append-nil, at_drop_more}
 use Rattle.pami_algebra.specs.Fraction.{Fraction}
 use Rattle.pami_frac.specs.declared.arithmetic.Refused.{Refused}
 use Rattle.pami_script.specs.Script.{then}
@@ -38,35 +38,7 @@ walk_enters cs rest c slope vs r s e f =
     s ∙ at_first cs rest c slope vs e ∙ ap (λ x. onward vs (then x (λ left. passed c left (walk_over (ordered comes_before rest))))) (sym f)
     ∙ ap (λ (flips : List ℕ). Ok (Some (record { variable = c.variable; tau = c.ratio; flips = flips }))) (append-nil vs)
 
-pub walk_stops : (cs rest : List Candidate) (c : Candidate) (slope : Fraction) (vs : List ℕ) (d : Refused) (r : Result (Option Entering) Refused) → r ≡ onward vs (walk_over (ordered comes_before cs) slope) → ordered comes_before cs ≡ c ∷ ordered comes_before rest →
-    Err d ≡ slope_behind c.width c.size slope → r ≡ Err d
-walk_stops cs rest c slope vs d r s e f =
-    s ∙ at_first cs rest c slope vs e ∙ ap (λ x. onward vs (then x (λ left. passed c left (walk_over (ordered comes_before rest))))) (sym f)
-
-pub walk_ends : (cs : List Candidate) (slope : Fraction) (vs : List ℕ) (r : Result (Option Entering) Refused) → r ≡ onward vs (walk_over (ordered comes_before cs) slope) → cs ≡ [] → r ≡ Ok None
-walk_ends cs slope vs r s e = s ∙ ap (λ ds. onward vs (walk_over (ordered comes_before ds) slope)) e
-
 -- ---- candidates that are in order already
 in_order : (cs : List Candidate) (i : ℕ) (c : Candidate) (slope : Fraction) (vs : List ℕ) → i < length cs → c ≡ get_or cs i c →
     onward vs (walk_over (drop i cs) slope) ≡ onward vs (then (slope_behind c.width c.size slope) (λ left. passed c left (walk_over (drop (i + 1) cs))))
 in_order cs i c slope vs h q = ap (λ ds. onward vs (walk_over ds slope)) (at_drop_more (λ ds. ds) cs i c h ∙ ap (λ d. d ∷ drop (i + 1) cs) (sym q))
-
-pub sorted_goes : (cs : List Candidate) (i : ℕ) (c : Candidate) (slope next : Fraction) (vs : List ℕ) (r : Result (Option Entering) Refused) → r ≡ onward vs (walk_over (drop i cs) slope) → i < length cs → c ≡ get_or cs i c →
-    Ok (Some next) ≡ slope_behind c.width c.size slope → r ≡ onward (vs ++ c.variable ∷ []) (walk_over (drop (i + 1) cs) next)
-sorted_goes cs i c slope next vs r s h q f =
-    s ∙ in_order cs i c slope vs h q ∙ ap (λ x. onward vs (then x (λ left. passed c left (walk_over (drop (i + 1) cs))))) (sym f)
-    ∙ more_flips vs c.variable (walk_over (drop (i + 1) cs) next)
-
-pub sorted_enters : (cs : List Candidate) (i : ℕ) (c : Candidate) (slope : Fraction) (vs : List ℕ) (r : Result (Option Entering) Refused) → r ≡ onward vs (walk_over (drop i cs) slope) → i < length cs → c ≡ get_or cs i c →
-    Ok None ≡ slope_behind c.width c.size slope → r ≡ Ok (Some (record { variable = c.variable; tau = c.ratio; flips = vs }))
-sorted_enters cs i c slope vs r s h q f =
-    s ∙ in_order cs i c slope vs h q ∙ ap (λ x. onward vs (then x (λ left. passed c left (walk_over (drop (i + 1) cs))))) (sym f)
-    ∙ ap (λ (flips : List ℕ). Ok (Some (record { variable = c.variable; tau = c.ratio; flips = flips }))) (append-nil vs)
-
-pub sorted_stops : (cs : List Candidate) (i : ℕ) (c : Candidate) (slope : Fraction) (vs : List ℕ) (d : Refused) (r : Result (Option Entering) Refused) → r ≡ onward vs (walk_over (drop i cs) slope) → i < length cs → c ≡ get_or cs i c →
-    Err d ≡ slope_behind c.width c.size slope → r ≡ Err d
-sorted_stops cs i c slope vs d r s h q f =
-    s ∙ in_order cs i c slope vs h q ∙ ap (λ x. onward vs (then x (λ left. passed c left (walk_over (drop (i + 1) cs))))) (sym f)
-
-pub sorted_ends : (cs : List Candidate) (i : ℕ) (slope : Fraction) (vs : List ℕ) (r : Result (Option Entering) Refused) → r ≡ onward vs (walk_over (drop i cs) slope) → length cs ≤ i → r ≡ Ok None
-sorted_ends cs i slope vs r s h = s ∙ ap (λ ds. onward vs (walk_over ds slope)) (drop_all i cs h)

@@ -1,43 +1,19 @@
 -- Tables and entries that are those of a form, a basis and a row that leaves.
 use Rattle.std.specs.Prelude.{◌≡◌, ℕ, ◌<◌, List, cond}
-use Rattle.pami_frac.specs.declared.list.Bounds.{Bounds}
 use Rattle.pami_frac.specs.declared.list.Entry.{Entry}
 use Rattle.pami_linear.specs.Lists.{get}
 use Rattle.pami_script.specs.Dense.{at, Rising}
-use Rattle.pami_theory.specs.Form.{Form, Limits, variables, limits, IsUncrossed, zero_f}
+use Rattle.pami_theory.specs.Form.{Form, variables, limits, IsUncrossed, zero_f}
 use Rattle.pami_theory.specs.Basis as theory
 use Rattle.pami_theory.specs.Violation as outside
 use Rattle.pami_theory.specs.Ratio.{Leaving, row_entry}
 use Rattle.pami_method.specs.Scripts.{is_nonbasic}
-use Rattle.pami_vec.specs.declared.list.Stand.{Stand}
-use Rattle.pami_vec.specs.declared.list.Stand.TheVariants.{Basic, Lower, Upper, Zero}
-use Rattle.pami_vec.specs.declared.violation.Side.{Side}
-use Rattle.pami_vec.specs.declared.violation.Side.TheVariants.{Above, Below}
-use Rattle.pami_vec.specs.declared.violation.Violation.{Violation}
 use Rattle.pami_bfrt.specs.Candidates.{Table, stand_at, bounds_at, width_at}
-
--- a stand as the theory has it
-abbrev pub theory_stand : Stand → theory.Stand
-theory_stand Basic = theory.Basic
-theory_stand Lower = theory.Lower
-theory_stand Upper = theory.Upper
-theory_stand Zero = theory.Zero
-
--- and a side, bounds and a violation
-abbrev pub theory_side : Side → outside.Side
-theory_side Above = outside.Above
-theory_side Below = outside.Below
-
-abbrev pub limits_of : Bounds → Limits
-limits_of b = record { low = b.low; high = b.high }
-
-abbrev pub violation_of : Violation → outside.Violation
-violation_of v = record { side = theory_side v.side; amount = v.amount }
 
 -- each variable stands so, has these bounds, which aren't crossed, its width where it is boxed, and its reduced cost
 pub record IsTable (f : Form) (b : theory.Basis) (l : Leaving) (t : Table) : Type 0 where
-  pub stand : (v : ℕ) → v < variables f → theory.stand_at b v ≡ theory_stand (stand_at t v)
-  pub bounds : (v : ℕ) → v < variables f → limits f v ≡ limits_of (bounds_at t v)
+  pub stand : (v : ℕ) → v < variables f → theory.stand_at b v ≡ stand_at t v
+  pub bounds : (v : ℕ) → v < variables f → limits f v ≡ bounds_at t v
   pub uncrossed : (v : ℕ) → v < variables f → IsUncrossed (limits f v)
   pub width : (v : ℕ) → v < variables f → width_at t v ≡ outside.width (limits f v)
   pub reduced : (v : ℕ) → v < variables f → get t.reduced v ≡ get l.reduced v

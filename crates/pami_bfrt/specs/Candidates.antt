@@ -1,18 +1,17 @@
 -- Which variables may enter, by lists over the variables and the entries of the pivot row that aren't 0.
-use Rattle.std.specs.Prelude.{ℕ, Bool, true, false, not, cond, List, [], ◌∷◌, Option, None, Some, Result, Ok, nat_lt, slice_index_or, if◌then◌else◌}
+use Rattle.std.specs.Prelude.{ℕ, Bool, true, false, cond, List, [], ◌∷◌, Option, None, Some, Result, Ok, nat_lt, slice_index_or, if◌then◌else◌}
 use Rattle.pami_algebra.specs.Fraction.{Fraction}
-use Rattle.pami_algebra.specs.Operations.{neg_f, is_below}
+use Rattle.pami_algebra.specs.Operations.{is_below}
 use Rattle.pami_frac.specs.Arithmetic.{div_outcome}
-use Rattle.pami_frac.specs.Signs.{is_zero, is_negative}
 use Rattle.pami_frac.specs.declared.arithmetic.Refused.{Refused}
 use Rattle.pami_frac.specs.declared.list.Bounds.{Bounds}
 use Rattle.pami_frac.specs.declared.list.Entry.{Entry}
 use Rattle.pami_linear.specs.Lists.{get}
 use Rattle.pami_script.specs.Script as script
-use Rattle.pami_vec.specs.declared.list.Stand.{Stand}
-use Rattle.pami_vec.specs.declared.list.Stand.TheVariants.{Basic, Lower, Upper, Zero}
-use Rattle.pami_vec.specs.declared.violation.Side.{Side}
-use Rattle.pami_vec.specs.declared.violation.Side.TheVariants.{Above, Below}
+use Rattle.pami_theory.specs.declared.words.Stand.{Stand}
+use Rattle.pami_theory.specs.declared.words.Stand.TheVariants.{Basic}
+use Rattle.pami_theory.specs.declared.words.Side.{Side}
+use Rattle.pami_theory.specs.Ratio.{toward, may_enter, absolute}
 use Rattle.pami_bfrt.specs.declared.candidate.Candidate.{Candidate}
 
 -- what is known of all variables: where they stand, their bounds, the widths of the boxed ones, the reduced costs
@@ -31,24 +30,6 @@ bounds_at t v = slice_index_or t.bounds v (record { low = None; high = None })
 abbrev pub width_at : Table → ℕ → Option Fraction
 width_at t v = slice_index_or t.widths v None
 
--- turned so that a positive entry lowers the distance where its variable grows
-abbrev pub turned : Side → Fraction → Fraction
-turned Above a = a
-turned Below a = neg_f a
-
-abbrev pub size_of : Fraction → Fraction
-size_of a = cond (is_negative a) (neg_f a) a
-
-abbrev pub is_positive : Fraction → Bool
-is_positive a = cond (is_negative a) false (not (is_zero a))
-
--- the stand lets the variable move so that the distance falls
-abbrev pub may_enter : Stand → Fraction → Bool
-may_enter Basic a = false
-may_enter Lower a = is_positive a
-may_enter Upper a = is_negative a
-may_enter Zero a = not (is_zero a)
-
 abbrev pub is_bounded : Option Fraction → Option Fraction → Bool
 is_bounded None high = false
 is_bounded (Some low) None = false
@@ -65,7 +46,7 @@ is_candidate t v a = cond (is_fixed (bounds_at t v) (width_at t v)) false (may_e
 
 -- it, with its ratio
 abbrev pub candidate_of : Table → ℕ → Fraction → Fraction → Candidate
-candidate_of t v a ratio = record { variable = v; ratio = ratio; size = size_of a; width = width_at t v }
+candidate_of t v a ratio = record { variable = v; ratio = ratio; size = absolute a; width = width_at t v }
 
 -- the candidate that an entry with this turned value makes, with its quotient; None where the variable may not enter
 abbrev pub candidate_script : Table → ℕ → Fraction → Result (Option Candidate) Refused
@@ -79,7 +60,7 @@ with_candidate (Some c) cs = c ∷ cs
 abbrev pub candidates_script : Table → Side → List Entry → Result (List Candidate) Refused
 candidates_script t side [] = Ok []
 candidates_script t side (e ∷ es) =
-    script.then (candidate_script t e.place (turned side e.value)) (λ c. script.then (candidates_script t side es) (λ cs. Ok (with_candidate c cs)))
+    script.then (candidate_script t e.place (toward side e.value)) (λ c. script.then (candidates_script t side es) (λ cs. Ok (with_candidate c cs)))
 
 -- the less ratio first, then the greater size, then the smaller variable
 abbrev pub comes_before : Candidate → Candidate → Bool

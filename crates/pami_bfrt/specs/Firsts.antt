@@ -1,9 +1,5 @@
 -- The candidate that comes first in the walk, where candidates stand in a list in any order.
-use Rattle.std.specs.Prelude.{◌≡◌, ℕ, suc, ◌<◌, true, false, List, [], ◌∷◌, length, Option, None, Some, Result, Ok, Err, slice_index_or}
-use Rattle.std.specs.Global.{Vec}
-use Rattle.pami_frac.specs.declared.arithmetic.Refused.{Refused}
-use Rattle.pami_frac.specs.declared.fault.Fault.{Fault}
-use Rattle.pami_frac.specs.declared.fault.Fault.TheVariants as faults
+use Rattle.std.specs.Prelude.{◌≡◌, ℕ, suc, ◌<◌, true, false, List, [], ◌∷◌, length, Option, None, Some, slice_index_or}
 use Rattle.pami_theory.specs.Order.{ordered}
 use Rattle.pami_bfrt.specs.Candidates.{comes_before}
 use Rattle.pami_bfrt.specs.declared.candidate.Candidate.{Candidate}
@@ -18,9 +14,3 @@ pub record IsFirst (cs : List Candidate) (i n : ℕ) : Type 0 where
 abbrev pub TakesFirst : List Candidate → Option Candidate → List Candidate → Type 0
 TakesFirst cs None rest = (cs ≡ []) × (rest ≡ [])
 TakesFirst cs (Some c) rest = (ordered comes_before cs ≡ c ∷ ordered comes_before rest) × (length cs ≡ suc (length rest))
-
--- Ok exactly with the script's candidates, a refusal exactly with its first refused operation; want of memory is free
-abbrev pub FollowsCandidates : Result (List Candidate) Refused → Result (Vec Candidate) (Fault Refused) → Type 0
-FollowsCandidates script (Ok cs) = script ≡ Ok cs.items
-FollowsCandidates script (Err (faults.Named r)) = script ≡ Err r
-FollowsCandidates script (Err faults.OutOfMemory) = Unit {0}

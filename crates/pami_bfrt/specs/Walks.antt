@@ -1,24 +1,24 @@
--- The walk over candidates by a running slope, with its operations, and how the answer of the call follows it.
+-- The walk over candidates by a running slope, with its operations, and what it found as the theory has it.
 use Rattle.std.specs.Prelude.{◌≡◌, ℕ, cond, List, [], ◌∷◌, ◌++◌, Option, None, Some, Result, Ok, Err}
 use Rattle.std.specs.Option.{option_map}
 use Rattle.pami_algebra.specs.Fraction.{Fraction}
 use Rattle.pami_frac.specs.Arithmetic.{mul_outcome, sub_outcome}
 use Rattle.pami_frac.specs.declared.arithmetic.Refused.{Refused}
-use Rattle.pami_frac.specs.declared.fault.Fault.{Fault}
-use Rattle.pami_frac.specs.declared.fault.Fault.TheVariants as faults
 use Rattle.pami_frac.specs.declared.list.Entry.{Entry}
 use Rattle.pami_script.specs.Script.{then}
+use Rattle.pami_algebra.specs.Operations.{is_below}
+use Rattle.pami_theory.specs.Form.{zero_f}
 use Rattle.pami_theory.specs.Order.{ordered}
 use Rattle.pami_theory.specs.Ratio.{Entering}
-use Rattle.pami_vec.specs.declared.violation.Violation.{Violation}
-use Rattle.pami_bfrt.specs.Candidates.{Table, is_positive, candidates_script, comes_before}
+use Rattle.pami_theory.specs.declared.words.Violation.{Violation}
+use Rattle.pami_bfrt.specs.Candidates.{Table, candidates_script, comes_before}
 use Rattle.pami_bfrt.specs.declared.candidate.Candidate.{Candidate}
 use Rattle.pami_bfrt.specs.declared.walk.Walk.{Walk}
 use Rattle.pami_bfrt.specs.declared.walk.Walk.TheVariants as walks
 
 -- a slope that goes on only above 0
 abbrev pub positive_only : Fraction → Option Fraction
-positive_only slope = cond (is_positive slope) (Some slope) None
+positive_only slope = cond (is_below zero_f slope) (Some slope) None
 
 -- the slope behind the flip of a candidate of this size and width; None where it isn't passed
 abbrev pub slope_behind : Option Fraction → Fraction → Fraction → Result (Option Fraction) Refused
@@ -47,9 +47,7 @@ onward vs s = then s (λ found. Ok (option_map (flips_first vs) found))
 abbrev pub walk_script : Table → List Entry → Violation → Result (Option Entering) Refused
 walk_script t alpha violation = then (candidates_script t violation.side alpha) (λ cs. walk_over (ordered comes_before cs) violation.amount)
 
--- Ok exactly with what the walk finds, a refusal exactly with its first refused operation; want of memory is free
-abbrev pub FollowsWalk : Result (Option Entering) Refused → Result Walk (Fault Refused) → Type 0
-FollowsWalk script (Ok (walks.Entering variable tau flips)) = script ≡ Ok (Some (record { variable = variable; tau = tau; flips = flips }))
-FollowsWalk script (Ok walks.NoEntering) = script ≡ Ok None
-FollowsWalk script (Err (faults.Named r)) = script ≡ Err r
-FollowsWalk script (Err faults.OutOfMemory) = Unit {0}
+-- what a walk of the program found
+abbrev pub found_by : Walk → Option Entering
+found_by (walks.Entering variable tau flips) = Some (record { variable = variable; tau = tau; flips = flips })
+found_by walks.NoEntering = None

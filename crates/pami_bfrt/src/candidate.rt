@@ -1,10 +1,12 @@
 //! The candidates among the entries of the pivot row, and their order.
 
 ghost use Rattle.std.specs.Prelude.{◌≡◌, ◌<◌, length, true, false};
-ghost use Rattle.pami_frac.specs.Signs.{is_zero};
+ghost use Rattle.pami_algebra.specs.Operations.{is_below, is_zero};
 ghost use Rattle.pami_script.specs.Dense.{Rising};
-ghost use Rattle.pami_bfrt.specs.Candidates.{Table, turned, size_of, is_positive, may_enter, is_fixed, is_candidate, candidate_script, candidates_script, comes_before};
-ghost use Rattle.pami_bfrt.specs.Firsts.{FollowsCandidates};
+ghost use Rattle.pami_theory.specs.Form.{zero_f};
+ghost use Rattle.pami_theory.specs.Ratio.{may_enter as the_may_enter, absolute};
+ghost use Rattle.pami_bfrt.specs.Candidates.{is_fixed as the_is_fixed, candidate_script, candidates_script, comes_before as the_comes_before};
+ghost use Rattle.pami_frac.specs.Answers.{FollowsBy};
 
 use pami_frac::{Bounds, Entry, Fault, Frac, Refused};
 use pami_vec::{Side, Stand};
@@ -22,7 +24,7 @@ pub(crate) struct Candidate {
 
 /// Does the first come before the second in the walk?
 pub(crate) fn comes_before(c: &Candidate, d: &Candidate) -> bool
-    ensures { result ≡ comes_before c.now d.now }
+    ensures { result ≡ the_comes_before c.now d.now }
 {
     match c.ratio.compare(&d.ratio) {
         Ordering::Less => return true,
@@ -37,33 +39,23 @@ pub(crate) fn comes_before(c: &Candidate, d: &Candidate) -> bool
     c.variable < d.variable
 }
 
-/// The entry, turned so that a positive one lowers the distance where its variable grows.
-fn turned(side: Side, alpha: Frac) -> Frac
-    ensures { result ≡ turned side alpha }
-{
-    match side {
-        Side::Above => alpha,
-        Side::Below => alpha.negate(),
-    }
-}
-
 /// Without its sign.
 fn size_of(a: Frac) -> Frac
-    ensures { result ≡ size_of a }
+    ensures { result ≡ absolute a }
 {
     if a.is_negative() { a.negate() } else { a }
 }
 
 /// Is it above 0?
 pub(crate) fn is_positive(a: Frac) -> bool
-    ensures { result ≡ is_positive a }
+    ensures { result ≡ is_below zero_f a }
 {
     !a.is_negative() && !a.is_zero()
 }
 
 /// May a variable that stands so move in the direction in which the distance falls?
 fn may_enter(stand: Stand, a: Frac) -> bool
-    ensures value { result ≡ may_enter stand a }
+    ensures value { result ≡ the_may_enter stand a }
     ensures nonzero { result ≡ true → is_zero a ≡ false }
 {
     match stand {
@@ -76,7 +68,7 @@ fn may_enter(stand: Stand, a: Frac) -> bool
 
 /// Has it two bounds and no width?
 fn is_fixed(bounds: &Bounds, width: Option<Frac>) -> bool
-    ensures { result ≡ is_fixed bounds.now width }
+    ensures { result ≡ the_is_fixed bounds.now width }
 {
     match width {
         Some(_) => false,
@@ -131,11 +123,11 @@ pub(crate) fn candidates(
     requires width { length widths.now ≡ length stands.now }
     requires cost { length reduced.now ≡ length stands.now }
     requires rising { Rising 0 (length stands.now) alpha.now }
-    ensures { FollowsCandidates (candidates_script (record { stands = stands.now; bounds = bounds.now; widths = widths.now; reduced = reduced.now }) side alpha.now) result }
+    ensures { FollowsBy (λ cs. cs.items) (candidates_script (record { stands = stands.now; bounds = bounds.now; widths = widths.now; reduced = reduced.now }) side alpha.now) result }
 {
     let mut out = Vec::new(alloc);
     for entry in alpha {
-        let a = turned(side, entry.value);
+        let a = side.toward(entry.value);
         let found = match candidate_at(stands, bounds, widths, reduced, entry.place, a) {
             Ok(found) => found,
             Err(refused) => return Err(Fault::Named(refused)),

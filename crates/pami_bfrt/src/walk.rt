@@ -1,8 +1,13 @@
 //! The walk over the candidates by a running slope.
 
-ghost use Rattle.std.specs.Prelude.{◌≡◌, length};
+ghost use Rattle.std.specs.Prelude.{◌≡◌, length, IfOk};
 ghost use Rattle.pami_script.specs.Dense.{Rising};
-ghost use Rattle.pami_bfrt.specs.Walks.{slope_behind, walk_over, onward, walk_script, FollowsWalk};
+ghost use Rattle.pami_bfrt.specs.Walks.{slope_behind as the_slope_behind, walk_over, onward, walk_script, found_by};
+ghost use Rattle.pami_frac.specs.Answers.{FollowsBy};
+ghost use Rattle.pami_theory.specs.Form.{Form};
+ghost use Rattle.pami_theory.specs.Basis.{Basis};
+ghost use Rattle.pami_theory.specs.Ratio.{Leaving, ratio_walk as the_ratio_walk};
+ghost use Rattle.pami_bfrt.specs.Agreement.{IsTable, AreRowEntries};
 
 use crate::candidate::{Candidate, candidates, is_positive};
 use crate::first::take_first;
@@ -28,7 +33,7 @@ pub enum Walk {
 
 /// The slope behind the flip of a candidate, where the walk passes it.
 fn slope_behind(width: Option<Frac>, size: Frac, slope: Frac) -> Result<Option<Frac>, Refused>
-    ensures { result ≡ slope_behind width size slope }
+    ensures { result ≡ the_slope_behind width size slope }
 {
     let width = match width {
         Some(width) => width,
@@ -51,7 +56,7 @@ fn slope_behind(width: Option<Frac>, size: Frac, slope: Frac) -> Result<Option<F
 
 /// The walk over candidates that are in order, behind these flips.
 fn walk_rest(left: &[Candidate], flips: Vec<u32>, slope: Frac) -> Result<Walk, Fault<Refused>>
-    ensures { FollowsWalk (onward flips.items (walk_over left.now slope)) result }
+    ensures { FollowsBy found_by (onward flips.items (walk_over left.now slope)) result }
 {
     let mut flips = flips;
     let mut slope = slope;
@@ -74,16 +79,8 @@ fn walk_rest(left: &[Candidate], flips: Vec<u32>, slope: Frac) -> Result<Walk, F
     Ok(Walk::NoEntering)
 }
 
-/// The dual ratio test with bound flipping at a row that leaves. Stands, bounds, widths and reduced costs go by variable;
-/// `alpha` has the entries of the pivot row at the nonbasic variables that aren't 0, ascending. The candidates are walked
-/// by rising ratio, then by falling size of the entry, then by variable; a boxed one is flipped and passed while its flip
-/// leaves a slope above 0, and the first that isn't passed enters. (Maros 2003; Koberstein 2005, section 6.2.)
-///
-/// # Errors
-///
-/// `Named` exactly where an operation of the walk doesn't fit: the first such, all ratios coming before the slopes.
-/// `OutOfMemory` where memory runs out.
-pub fn ratio_walk(
+/// `ratio_walk`, by its script alone.
+fn walk_of(
     alloc: Global,
     stands: &[Stand],
     bounds: &[Bounds],
@@ -96,7 +93,7 @@ pub fn ratio_walk(
     requires width { length widths.now ≡ length stands.now }
     requires cost { length reduced.now ≡ length stands.now }
     requires rising { Rising 0 (length stands.now) alpha.now }
-    ensures { FollowsWalk (walk_script (record { stands = stands.now; bounds = bounds.now; widths = widths.now; reduced = reduced.now }) alpha.now violation.now) result }
+    ensures { FollowsBy found_by (walk_script (record { stands = stands.now; bounds = bounds.now; widths = widths.now; reduced = reduced.now }) alpha.now violation.now) result }
 {
     let mut left = match candidates(
         alloc,
@@ -134,4 +131,34 @@ pub fn ratio_walk(
     }
     sort(&mut left);
     walk_rest(left.as_slice(), flips, slope)
+}
+
+/// The dual ratio test with bound flipping at a row that leaves. Stands, bounds, widths and reduced costs go by variable;
+/// `alpha` has the entries of the pivot row at the nonbasic variables that aren't 0, ascending. The candidates are walked
+/// by rising ratio, then by falling size of the entry, then by variable; a boxed one is flipped and passed while its flip
+/// leaves a slope above 0, and the first that isn't passed enters. (Maros 2003; Koberstein 2005, section 6.2.)
+///
+/// # Errors
+///
+/// `Named` exactly where an operation of the walk doesn't fit: the first such, all ratios coming before the slopes.
+/// `OutOfMemory` where memory runs out.
+pub fn ratio_walk(
+    alloc: Global,
+    stands: &[Stand],
+    bounds: &[Bounds],
+    widths: &[Option<Frac>],
+    reduced: &[Frac],
+    alpha: &[Entry],
+    violation: &Violation,
+) -> Result<Walk, Fault<Refused>>
+    requires bound { length bounds.now ≡ length stands.now }
+    requires width { length widths.now ≡ length stands.now }
+    requires cost { length reduced.now ≡ length stands.now }
+    requires rising { Rising 0 (length stands.now) alpha.now }
+    ensures script { FollowsBy found_by (walk_script (record { stands = stands.now; bounds = bounds.now; widths = widths.now; reduced = reduced.now }) alpha.now violation.now) result }
+    // On a form, a basis and a row that leaves, which have these lists, it is the walk of the theory.
+    ensures walk { (f : Form) (b : Basis) (l : Leaving) → IsTable f b l (record { stands = stands.now; bounds = bounds.now; widths = widths.now; reduced = reduced.now })
+        → AreRowEntries f b l alpha.now → l.violation ≡ violation.now → IfOk result (λ walk. found_by walk ≡ the_ratio_walk f b l) }
+{
+    walk_of(alloc, stands, bounds, widths, reduced, alpha, violation)
 }

@@ -3,7 +3,6 @@ use Rattle.std.proofs.Common.{◌≡◌, ℕ, zero, suc, ◌+◌, ◌<◌, ◌�
 use Rattle.std.proofs.lemmas.Bool.{cases_lt}
 use Rattle.std.proofs.lemmas.List.{get_or_default, take-map, append-nil}
 use Rattle.std.proofs.lemmas.List.FromFn.{get_or-range_with_len}
-use Rattle.std.proofs.Math.ListN.{get_or-map}
 use Rattle.std.specs.List.{filter_map, range_with_len, cons_option, IsDistinct}
 use Rattle.std.specs.List.Sorted.{ties}
 use Rattle.std.specs.Option.{option_map}
@@ -14,19 +13,18 @@ use Rattle.pami_linear.specs.Lists.{get}
 use Rattle.pami_script.specs.Script.{then}
 use Rattle.pami_script.proofs.Scripts.{then_go, then_stop}
 use Rattle.pami_script.proofs.Loops.{get_is}
-use Rattle.pami_theory.specs.Form.{Form, Limits, limits}
+use Rattle.pami_theory.specs.Form.{Form, limits}
 use Rattle.pami_theory.specs.Basis.{Basis, head_at}
 use Rattle.pami_theory.specs.Fresh.{Fresh}
-use Rattle.pami_theory.specs.Violation.{Violation, violation}
+use Rattle.pami_theory.specs.declared.words.Violation.{Violation}
+use Rattle.pami_theory.specs.Violation.{violation}
 use Rattle.pami_theory.specs.Choice.{InfeasibleRow, row_of, is_chosen_before, infeasible_at}
 use Rattle.pami_theory.specs.Order.{ordered, put_in}
 use Rattle.pami_theory.specs.Weights.{weight_at}
 use Rattle.pami_theory.proofs.Comparisons.{choice_is_order}
 use Rattle.pami_theory.proofs.Chosen.{take_put, ordered_more, rows_no_ties}
 use Rattle.pami_method.specs.Scripts.{each_number, violation_script}
-use Rattle.pami_vec.specs.declared.violation.Violation as program
 use Rattle.pami_chuzr.specs.declared.row.RankedRow.{RankedRow}
-use Rattle.pami_chuzr.specs.Violation.{limits_by, violation_of, answer_of}
 use Rattle.pami_chuzr.specs.Choice.{bounds_at, violation_at, infeasible_by, choice_script, chosen_by, chosen_row, places_script, row_by, is_before}
 use Rattle.pami_chuzr.proofs.Places.{filter_map_same}
 
@@ -75,7 +73,7 @@ rows_more h (suc n) k =
 
 -- a form with one row for each of the first n places, and a basis with its variables at them
 abbrev form_below : List Bounds → ℕ → Form
-form_below bounds n = record { rows = n; columns = 0; entries = []; bounds = map limits_by bounds; costs = [] }
+form_below bounds n = record { rows = n; columns = 0; entries = []; bounds = bounds; costs = [] }
 
 abbrev basis_below : ℕ → Basis
 basis_below n = record { head = range_with_len 0 n; stands = [] }
@@ -87,7 +85,6 @@ below_same : (bounds : List Bounds) (values : List Fraction) (weights : List ℕ
 below_same bounds values weights n p h =
     let here : head_at (basis_below n) p ≡ p = omega (arith, get_or-range_with_len 0 n p 0 h) in
     ap (λ q. option_map (row_of p (weight_at weights p)) (violation (limits (form_below bounds n) q) (get values q))) here
-    ∙ ap (λ (l : Limits). option_map (row_of p (weight_at weights p)) (violation l (get values p))) (get_or-map limits_by bounds p (record { low = None; high = None }))
 
 rows_apart : (bounds : List Bounds) (values : List Fraction) (weights : List ℕ) (n : ℕ) → IsDistinct (ties is_chosen_before) (rows_below bounds values weights n)
 rows_apart bounds values weights n =
@@ -132,17 +129,19 @@ surveyed_infeasible bounds values weights most i ranked next x row e o p s =
     }
 
 -- ---- what is read at a place
-limits_read : (bounds : List Bounds) (k : ℕ) (b : Bounds) → k < length bounds → b ≡ get_or bounds k b → limits_by b ≡ bounds_at bounds k
-limits_read bounds k b l e = ap limits_by (e ∙ get_or_default bounds k b (record { low = None; high = None }) l)
+bounds_read : (bounds : List Bounds) (k : ℕ) (b : Bounds) → k < length bounds → b ≡ get_or bounds k b → b ≡ bounds_at bounds k
+bounds_read bounds k b l e = e ∙ get_or_default bounds k b (record { low = None; high = None }) l
 
-pub script_read : (bounds : List Bounds) (values : List Fraction) (k : ℕ) (b : Bounds) (v : Fraction) (r : Result (Option program.Violation) Refused) → k < length bounds → b ≡ get_or bounds k b → k < length values → v ≡ get_or values k v →
-    answer_of r ≡ violation_script (limits_by b) v → violation_at bounds values k ≡ answer_of r
-script_read bounds values k b v r lb eb lv ev s = sym (s ∙ ap (λ l. violation_script l v) (limits_read bounds k b lb eb) ∙ ap (violation_script (bounds_at bounds k)) (get_is values k v lv ev))
+pub script_read : (bounds : List Bounds) (values : List Fraction) (k : ℕ) (b : Bounds) (v : Fraction) (r : Result (Option Violation) Refused) → k < length bounds →
+    b ≡ get_or bounds k b → k < length values → v ≡ get_or values k v → r ≡ violation_script b v → violation_at bounds values k ≡ r
+script_read bounds values k b v r lb eb lv ev s =
+    sym (s ∙ ap (λ l. violation_script l v) (bounds_read bounds k b lb eb) ∙ ap (violation_script (bounds_at bounds k)) (get_is values k v lv ev))
 
-pub row_read : (bounds : List Bounds) (values : List Fraction) (weights : List ℕ) (k : ℕ) (b : Bounds) (v : Fraction) (x : Option program.Violation) → k < length bounds → b ≡ get_or bounds k b → k < length values → v ≡ get_or values k v →
-    option_map violation_of x ≡ violation (limits_by b) v → infeasible_by bounds values weights k ≡ option_map (row_of k (weight_at weights k)) (option_map violation_of x)
+pub row_read : (bounds : List Bounds) (values : List Fraction) (weights : List ℕ) (k : ℕ) (b : Bounds) (v : Fraction) (x : Option Violation) → k < length bounds →
+    b ≡ get_or bounds k b → k < length values → v ≡ get_or values k v → x ≡ violation b v → infeasible_by bounds values weights k ≡ option_map (row_of k (weight_at weights k)) x
 row_read bounds values weights k b v x lb eb lv ev s =
-    ap (option_map (row_of k (weight_at weights k))) (sym (s ∙ ap (λ l. violation l v) (limits_read bounds k b lb eb) ∙ ap (violation (bounds_at bounds k)) (get_is values k v lv ev)))
+    ap (option_map (row_of k (weight_at weights k)))
+    (sym (s ∙ ap (λ l. violation l v) (bounds_read bounds k b lb eb) ∙ ap (violation (bounds_at bounds k)) (get_is values k v lv ev)))
 
 -- rows put in order in another form
 map_put_in : {A B : Type 0} (f : A → B) (before : B → B → Bool) (x : A) (xs : List A) → map f (put_in (λ y z. before (f y) (f z)) x xs) ≡ put_in before (f x) (map f xs)

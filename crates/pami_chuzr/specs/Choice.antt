@@ -1,31 +1,28 @@
 -- Row choice over lists by place: the bounds of the basic variables, their values and the weights of the places.
-use Rattle.std.specs.Prelude.{◌≡◌, ℕ, ◌<◌, Bool, List, length, map, take, Option, None, Result, Ok, Err, slice_index_or}
-use Rattle.std.specs.Global.{Vec}
+use Rattle.std.specs.Prelude.{◌≡◌, ℕ, ◌<◌, Bool, List, length, map, take, Option, None, Result, Ok, slice_index_or}
 use Rattle.std.specs.List.{filter_map, range_with_len}
 use Rattle.std.specs.Option.{option_map}
 use Rattle.pami_algebra.specs.Fraction.{Fraction}
 use Rattle.pami_linear.specs.Lists.{get}
 use Rattle.pami_frac.specs.declared.arithmetic.Refused.{Refused}
-use Rattle.pami_frac.specs.declared.fault.Fault.{Fault}
-use Rattle.pami_frac.specs.declared.fault.Fault.TheVariants as faults
 use Rattle.pami_frac.specs.declared.list.Bounds.{Bounds}
 use Rattle.pami_script.specs.Script.{then}
-use Rattle.pami_theory.specs.Form.{Form, Limits, limits}
+use Rattle.pami_theory.specs.Form.{Form, limits}
 use Rattle.pami_theory.specs.Basis.{Basis, head_at}
 use Rattle.pami_theory.specs.Fresh.{Fresh, value_at_place}
-use Rattle.pami_theory.specs.Violation.{Violation, violation}
+use Rattle.pami_theory.specs.declared.words.Violation.{Violation}
+use Rattle.pami_theory.specs.Violation.{violation}
 use Rattle.pami_theory.specs.Weights.{weight_at}
 use Rattle.pami_theory.specs.Choice.{InfeasibleRow, row_of, is_chosen_before}
 use Rattle.pami_theory.specs.Order.{ordered}
 use Rattle.pami_method.specs.Scripts.{each_number, violation_script}
 use Rattle.pami_chuzr.specs.declared.row.ChosenRow.{ChosenRow}
 use Rattle.pami_chuzr.specs.declared.row.RankedRow.{RankedRow}
-use Rattle.pami_chuzr.specs.Violation.{limits_by, violation_of, side_by}
 
 -- ---- places
 -- the bounds of the variable at a place; none past the end of the list
-abbrev pub bounds_at : List Bounds → ℕ → Limits
-bounds_at bounds p = limits_by (slice_index_or bounds p (record { low = None; high = None }))
+abbrev pub bounds_at : List Bounds → ℕ → Bounds
+bounds_at bounds p = slice_index_or bounds p (record { low = None; high = None })
 
 -- how far the value at a place is outside
 abbrev pub violation_at : List Bounds → List Fraction → ℕ → Result (Option Violation) Refused
@@ -52,7 +49,7 @@ pub record AreOfPlaces (f : Form) (b : Basis) (s : Fresh) (bounds : List Bounds)
 -- ---- rows of the program
 -- a row of the program, as one of the theory
 abbrev pub row_by : RankedRow → InfeasibleRow
-row_by r = record { place = r.place; violation = violation_of r.violation; merit = r.merit }
+row_by r = record { place = r.place; violation = r.violation; merit = r.merit }
 
 -- the test by which rows of the program are ordered
 abbrev pub is_before : RankedRow → RankedRow → Bool
@@ -60,15 +57,9 @@ is_before r s = is_chosen_before (row_by r) (row_by s)
 
 -- what is told of a chosen place
 abbrev pub chosen_row : InfeasibleRow → ChosenRow
-chosen_row r = record { place = r.place; side = side_by r.violation.side; merit = r.merit }
+chosen_row r = record { place = r.place; side = r.violation.side; merit = r.merit }
 
 -- ---- the answer
 -- the rows that are chosen, or the first refused operation over the places ascending
 abbrev pub choice_script : List Bounds → List Fraction → List ℕ → ℕ → Result (List ChosenRow) Refused
 choice_script bounds values weights most = then (places_script bounds values) (λ found. Ok (map chosen_row (chosen_by bounds values weights most)))
-
--- Ok exactly with the script's rows, the named refusal exactly with its first refused operation; want of memory is free
-abbrev pub FollowsChoice : Result (List ChosenRow) Refused → Result (Vec ChosenRow) (Fault Refused) → Type 0
-FollowsChoice script (Ok rows) = script ≡ Ok rows.items
-FollowsChoice script (Err (faults.Named r)) = script ≡ Err r
-FollowsChoice script (Err faults.OutOfMemory) = Unit {0}

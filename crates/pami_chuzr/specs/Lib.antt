@@ -1,2 +1,1 @@
-pub mod Violation
 pub mod Choice

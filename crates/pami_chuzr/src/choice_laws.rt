@@ -4,7 +4,7 @@ ghost use Rattle.std.specs.Prelude.{◌≡◌, ◌↔◌, ℕ, List, Result, Ok,
 ghost use Rattle.pami_algebra.specs.Fraction.{Fraction};
 ghost use Rattle.pami_frac.specs.declared.arithmetic.Refused.{Refused};
 ghost use Rattle.pami_frac.specs.declared.list.Bounds.{Bounds};
-ghost use Rattle.pami_theory.specs.Form.{Form, Limits, IsWithin};
+ghost use Rattle.pami_theory.specs.Form.{Form, IsWithin};
 ghost use Rattle.pami_theory.specs.Basis.{Basis};
 ghost use Rattle.pami_theory.specs.Fresh.{Fresh};
 ghost use Rattle.pami_theory.specs.Choice.{chosen as the_chosen};
@@ -14,7 +14,7 @@ ghost use Rattle.pami_chuzr.specs.Choice.{AreOfPlaces, places_script, chosen_by,
 
 /// A value has no violation exactly within its bounds; there no operation is refused.
 pub fn violations_are_outside()
-    ensures { (l : Limits) (value : Fraction) → (violation_script l value ≡ Ok None) ↔ IsWithin l value }
+    ensures { (l : Bounds) (value : Fraction) → (violation_script l value ≡ Ok None) ↔ IsWithin l value }
 {}
 
 /// At a basis, the rows that are chosen over the lists of its places are those that the theory chooses, and the operations

@@ -1,14 +1,12 @@
 //! How far a value lies outside of its bounds.
 
 ghost use Rattle.std.specs.Prelude.{◌≡◌, ◌↔◌, Result, Ok, None, Some, IfOk};
-ghost use Rattle.std.specs.Option.{option_map};
 ghost use Rattle.pami_algebra.specs.Operations.{is_below as the_is_below};
 ghost use Rattle.pami_frac.specs.Arithmetic.{sub_outcome};
 ghost use Rattle.pami_script.specs.Script.{then};
 ghost use Rattle.pami_theory.specs.Form.{IsWithin};
 ghost use Rattle.pami_theory.specs.Violation.{violation as the_violation};
 ghost use Rattle.pami_method.specs.Scripts.{violation_script};
-ghost use Rattle.pami_chuzr.specs.Violation.{limits_by, violation_of, answer_of};
 
 use pami_frac::{Bounds, Frac, Refused};
 use pami_vec::{Side, Violation};
@@ -28,10 +26,8 @@ pub(crate) fn is_below(left: &Frac, right: &Frac) -> bool
 fn by_difference(side: Side, upper: Frac, lower: Frac) -> Result<Option<Violation>, Refused>
     ensures { result ≡ then (sub_outcome upper lower) (λ amount. Ok (Some (record { side = side; amount = amount }))) }
 {
-    match upper.sub(lower) {
-        Ok(amount) => Ok(Some(Violation { side, amount })),
-        Err(refused) => Err(refused),
-    }
+    let amount = upper.sub(lower)?;
+    Ok(Some(Violation { side, amount }))
 }
 
 /// On which side of its bounds a value lies, and how far from the bound that it passes; `None` exactly where it is within
@@ -41,9 +37,9 @@ fn by_difference(side: Side, upper: Frac, lower: Frac) -> Result<Option<Violatio
 ///
 /// `Refused` exactly where that distance doesn't fit.
 pub fn violation(value: &Frac, bounds: &Bounds) -> Result<Option<Violation>, Refused>
-    ensures script { answer_of result ≡ violation_script (limits_by bounds.now) value.now }
-    ensures exact { IfOk result (λ found. option_map violation_of found ≡ the_violation (limits_by bounds.now) value.now) }
-    ensures within { (result ≡ Ok None) ↔ IsWithin (limits_by bounds.now) value.now }
+    ensures script { result ≡ violation_script bounds.now value.now }
+    ensures exact { IfOk result (λ found. found ≡ the_violation bounds.now value.now) }
+    ensures within { (result ≡ Ok None) ↔ IsWithin bounds.now value.now }
 {
     if let Some(high) = bounds.high {
         if is_below(&high, value) {

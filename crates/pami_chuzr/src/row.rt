@@ -2,7 +2,6 @@
 
 ghost use Rattle.std.specs.Prelude.{◌≡◌, ◌<◌};
 ghost use Rattle.pami_theory.specs.Choice.{row_of, is_chosen_before};
-ghost use Rattle.pami_chuzr.specs.Violation.{violation_of};
 ghost use Rattle.pami_chuzr.specs.Choice.{row_by, chosen_row, is_before};
 
 use pami_devex::merit;
@@ -29,7 +28,7 @@ impl RankedRow {
     /// The place with this violation and this weight.
     pub(crate) fn new(place: u32, violation: Violation, weight: u64) -> RankedRow
         requires { 0 < weight }
-        ensures { row_by result ≡ row_of place weight (violation_of violation) }
+        ensures { row_by result ≡ row_of place weight violation }
     {
         RankedRow {
             place,

@@ -7,11 +7,11 @@ use Rattle.pami_theory.specs.Fresh.{Fresh, IsFresh, IsDualFeasible}
 use Rattle.pami_theory.specs.Start.{starting_basis}
 use Rattle.pami_theory.proofs.Starts.{start_is_basis}
 use Rattle.pami_theory.proofs.Solved.{only_fresh}
-use Rattle.pami_method.specs.Walk.{Options}
+use Rattle.pami_method.specs.declared.words.Options.{Options}
 use Rattle.pami_method.specs.Phases.{Phase, Record, Answer, Optimal, Infeasible, DualInfeasible, Limit, Overflow, IsRun, refused_start, in_phase_two, refused_boxes, in_phase_one, dual_infeasible, refused_switch, in_both, start_refused}
 use Rattle.pami_method.proofs.Runs.{run_only}
 use Rattle.pami_cli.specs.declared.status.Status.{Status}
-use Rattle.pami_cli.specs.Form.{form_of}
+use Rattle.pami_model_form.specs.ModelForm.{model_form}
 use Rattle.pami_cli.specs.Text.{run_text}
 use Rattle.pami_cli.specs.Answer.{options_of, HasStatus, AnswersRun, AnswersPhaseOne, AnswersModel}
 
@@ -48,13 +48,13 @@ starts_so f o _ _ (in_both s majors st b t later end answer h e d one switch r w
 some_refused : {r : Refused} {A : Type 0} → Some r ≡ None → A
 some_refused e = absurd cc
 
-no_phase_one : (c : Contents) (t : Status) (v : List ℕ) → StartsSo (form_of c) → AnswersPhaseOne c t v → ⊥
+no_phase_one : (c : Contents) (t : Status) (v : List ℕ) → StartsSo (model_form c) → AnswersPhaseOne c t v → ⊥
 no_phase_one c t v (s, h, inl (refused, e)) b =
-    some_refused (sym e ∙ ap (start_refused (form_of c)) (only_fresh (form_of c) (starting_basis (form_of c)) s b.start (start_is_basis (form_of c)) h b.fresh) ∙ b.fits)
+    some_refused (sym e ∙ ap (start_refused (model_form c)) (only_fresh (model_form c) (starting_basis (model_form c)) s b.start (start_is_basis (model_form c)) h b.fresh) ∙ b.fits)
 no_phase_one c t v (s, h, inr d) b = b.not_dual_feasible d
 
 pub one_model_answer : (c : Contents) (limit : ℕ) (s t : Status) (w v : List ℕ) → AnswersModel c limit s w → AnswersModel c limit t v → (s ≡ t) × (w ≡ v)
-one_model_answer c limit s t w v (inl a) (inl b) = same_run c limit s t w v a b (run_only (form_of c) (options_of limit) a.told b.told a.answer b.answer a.run b.run)
-one_model_answer c limit s t w v (inl a) (inr b) = absurd (no_phase_one c t v (starts_so (form_of c) (options_of limit) a.told a.answer a.run a.without_phase_one) b)
-one_model_answer c limit s t w v (inr a) (inl b) = absurd (no_phase_one c s w (starts_so (form_of c) (options_of limit) b.told b.answer b.run b.without_phase_one) a)
+one_model_answer c limit s t w v (inl a) (inl b) = same_run c limit s t w v a b (run_only (model_form c) (options_of limit) a.told b.told a.answer b.answer a.run b.run)
+one_model_answer c limit s t w v (inl a) (inr b) = absurd (no_phase_one c t v (starts_so (model_form c) (options_of limit) a.told a.answer a.run a.without_phase_one) b)
+one_model_answer c limit s t w v (inr a) (inl b) = absurd (no_phase_one c s w (starts_so (model_form c) (options_of limit) b.told b.answer b.run b.without_phase_one) a)
 one_model_answer c limit s t w v (inr a) (inr b) = (a.status_is ∙ sym b.status_is, a.written_is ∙ sym b.written_is)

@@ -10,7 +10,7 @@ use Rattle.pami_theory.specs.Weights.{weight_at}
 use Rattle.pami_theory.proofs.Starts.{start_is_basis}
 use Rattle.pami_method.specs.Phases.{starting_state}
 use Rattle.pami_devex.specs.Weights.{AreWeights}
-use Rattle.pami_vec.specs.declared.violation.Side.{Side}
+use Rattle.pami_theory.specs.declared.words.Side.{Side}
 use Rattle.pami_form.specs.declared.form.Form.{Form as ProgramForm}
 use Rattle.pami_state.specs.declared.state.State.{State}
 use Rattle.pami_state.specs.Columns.{form_by}

@@ -16,32 +16,32 @@ use Rattle.pami_model.specs.declared.model.Sense.{Sense}
 use Rattle.pami_model.specs.Draft.{nonnegative}
 use Rattle.pami_model.specs.Contents.{Contents}
 use Rattle.pami_mps.specs.Mps.{Mps}
-use Rattle.pami_state.specs.Columns.{limits_by}
-use Rattle.pami_theory.specs.Form.{Form, Limits, entry, limits, cost, variables, zero_f}
+use Rattle.pami_frac.specs.declared.list.Bounds.{Bounds}
+use Rattle.pami_theory.specs.Form.{Form, entry, limits, cost, variables, zero_f}
 use Rattle.pami_theory.specs.Fresh.{Fresh, IsFresh, IsDualFeasible}
 use Rattle.pami_theory.specs.Start.{starting_basis, IsStandard}
 use Rattle.pami_theory.proofs.Standard.{CostsNonnegative, standard_values_only, standard_dual_feasible}
-use Rattle.pami_method.specs.Place.{refusal}
+use Rattle.pami_method.specs.Task.{refusal}
 use Rattle.pami_method.specs.Scripts.{each_number, start_script}
 use Rattle.pami_method.specs.Phases.{start_refused}
-use Rattle.pami_form.specs.Model.{minimised, model_form}
+use Rattle.pami_model_form.specs.ModelForm.{minimised, model_form}
 use Rattle.pami_cli.proofs.Accepted.{IsSmall, small_of}
 
 -- ---- the form
 -- `d` is what would stand past the end
-column_limits : (c : Contents) → IsSmall c → (j : ℕ) (d : Column) → j < length c.columns → limits (model_form c) j ≡ limits_by nonnegative
+column_limits : (c : Contents) → IsSmall c → (j : ℕ) (d : Column) → j < length c.columns → limits (model_form c) j ≡ nonnegative
 column_limits c small j d l =
-    get_or_append_left (map (λ (column : Column). limits_by column.bounds) c.columns) (map (λ (row : Row). limits_by row.bounds) c.rows) _ j (omega (arith, l, length-map c.columns (λ (column : Column). limits_by column.bounds)))
-    ∙ get_or-map (λ (column : Column). limits_by column.bounds) c.columns j d _ l
-    ∙ ap limits_by (small.nonnegative_columns j d l)
+    get_or_append_left (map (λ (column : Column). column.bounds) c.columns) (map (λ (row : Row). row.bounds) c.rows) _ j (omega (arith, l, length-map c.columns (λ (column : Column). column.bounds)))
+    ∙ get_or-map (λ (column : Column). column.bounds) c.columns j d _ l
+    ∙ (small.nonnegative_columns j d l)
 
 some_column : Column
 some_column = record { name = []; cost = zero_f; bounds = nonnegative; entries = [] }
 
 standard_of : (c : Contents) → IsSmall c → IsStandard (model_form c)
 standard_of c small = record {
-  low = λ j l. ap (λ (z : Limits). z.low) (column_limits c small j some_column l);
-  high = λ j l. ap (λ (z : Limits). z.high) (column_limits c small j some_column l);
+  low = λ j l. ap (λ (z : Bounds). z.low) (column_limits c small j some_column l);
+  high = λ j l. ap (λ (z : Bounds). z.high) (column_limits c small j some_column l);
 }
 
 column_cost : (c : Contents) → IsSmall c → (j : ℕ) (d : Column) → j < length c.columns → cost (model_form c) j ≡ (get_or c.columns j d).cost

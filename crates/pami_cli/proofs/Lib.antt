@@ -7,6 +7,5 @@ pub mod Listed
 pub mod Narrow
 pub mod FileStarts
 pub mod Started
-pub mod Ended
+pub mod WalkEnds
 pub mod Begun
-pub mod Items

@@ -8,16 +8,16 @@ use Rattle.pami_model.specs.Rules.{names_of_rows, names_of_columns}
 use Rattle.pami_model.specs.Contents.{Contents}
 use Rattle.pami_script.specs.Script.{add_dot}
 use Rattle.pami_theory.specs.Form.{zero_f}
-use Rattle.pami_vec.specs.declared.list.Stand.{Stand as ToldStand}
-use Rattle.pami_theory.specs.Basis.{Stand, Zero, Basis, stand_at}
-use Rattle.pami_state.specs.State.{stand_of}
-use Rattle.pami_text.specs.Line.{line, text}
-use Rattle.pami_text.specs.Answer.{Counts, Valued, objective_word, valued_from, valued_line, optimal_lines, letters, stands_from, basis_line}
-use Rattle.pami_text.specs.Record.{kept_or_none, objective_in, certificate_of}
-use Rattle.pami_text.proofs.Texts.{text_append, text_one}
-use Rattle.pami_cli.specs.Form.{member}
-use Rattle.pami_log.specs.Events.{counts_of}
-use Rattle.pami_cli.specs.Text.{named_of}
+use Rattle.pami_theory.specs.declared.words.Stand.{Stand}
+use Rattle.pami_theory.specs.declared.words.Stand.TheVariants.{Zero}
+use Rattle.pami_theory.specs.Basis.{Basis, stand_at}
+use Rattle.pami_lines.specs.Line.{line, text}
+use Rattle.pami_lines.specs.Head.{Counts}
+use Rattle.pami_lines.specs.Letters.{letters, stands_from, basis_line}
+use Rattle.pami_lines.specs.Certificate.{Valued, objective_word, valued_from, valued_line, optimal_lines, kept_or_none, objective_in, certificate_of}
+use Rattle.pami_lines.proofs.Texts.{text_append, text_one}
+use Rattle.pami_model_form.specs.ModelForm.{member}
+use Rattle.pami_model_form.specs.Named.{counts_of, named_of}
 
 -- ---- certificates
 
@@ -87,23 +87,23 @@ stands_taken ss v (suc count) l =
     ap (λ (rest : List Stand). slice_index_or ss v Zero ∷ rest) (stands_taken ss (v + 1) count (omega arith))
     ∙ sym (at_drop_more (λ rest. take (suc count) rest) ss v Zero (omega arith))
 
-pub basis_joined : (n : Counts) (b : Basis) (stands : List ToldStand) → b.stands ≡ map stand_of stands → n.columns + n.rows ≡ length stands →
-    line (codes "basis" ∷ letters (map stand_of (take n.columns stands)) ∷ letters (map stand_of (drop n.columns stands)) ∷ []) ≡ line (basis_line n (stand_at b))
+pub basis_joined : (n : Counts) (b : Basis) (stands : List Stand) → b.stands ≡ stands → n.columns + n.rows ≡ length stands →
+    line (codes "basis" ∷ letters (take n.columns stands) ∷ letters (drop n.columns stands) ∷ []) ≡ line (basis_line n (stand_at b))
 basis_joined n b stands e l =
-    let many : length b.stands ≡ n.columns + n.rows = ap length e ∙ length-map stands stand_of ∙ sym l in
-    let columns : map stand_of (take n.columns stands) ≡ stands_from 0 n.columns (stand_at b) =
-    sym (take-map stand_of n.columns stands) ∙ ap (take n.columns) (sym e) ∙ sym (stands_taken b.stands 0 n.columns (omega (arith, many))) in
-    let rows : map stand_of (drop n.columns stands) ≡ stands_from n.columns n.rows (stand_at b) =
-    sym (drop-map stand_of n.columns stands) ∙ ap (drop n.columns) (sym e)
+    let many : length b.stands ≡ n.columns + n.rows = ap length e ∙ sym l in
+    let columns : take n.columns stands ≡ stands_from 0 n.columns (stand_at b) =
+    ap (take n.columns) (sym e) ∙ sym (stands_taken b.stands 0 n.columns (omega (arith, many))) in
+    let rows : drop n.columns stands ≡ stands_from n.columns n.rows (stand_at b) =
+    ap (drop n.columns) (sym e)
     ∙ sym (take_rest b.stands n.columns) ∙ ap (λ k. take k (drop n.columns b.stands)) (let k : length b.stands - n.columns ≡ n.rows = omega (arith, many) in k)
     ∙ sym (stands_taken b.stands n.columns n.rows (omega (arith, many))) in
-    ap (λ (z : List Stand). line (codes "basis" ∷ letters z ∷ letters (map stand_of (drop n.columns stands)) ∷ [])) columns
+    ap (λ (z : List Stand). line (codes "basis" ∷ letters z ∷ letters (drop n.columns stands) ∷ [])) columns
     ∙ ap (λ (z : List Stand). line (codes "basis" ∷ letters (stands_from 0 n.columns (stand_at b)) ∷ letters z ∷ [])) rows
 
 -- the line of a basis, as it is printed of lists that were lent
-pub basis_printed : (m : Contents) (b : Basis) (stands lent : List ToldStand) (columns : List Column) → b.stands ≡ map stand_of stands → length m.columns + length m.rows ≡ length stands → lent ≡ stands → columns ≡ m.columns →
-    line (codes "basis" ∷ letters (map stand_of (take (length columns) lent)) ∷ letters (map stand_of (drop (length columns) lent)) ∷ []) ≡ line (basis_line (counts_of m) (stand_at b))
+pub basis_printed : (m : Contents) (b : Basis) (stands lent : List Stand) (columns : List Column) → b.stands ≡ stands → length m.columns + length m.rows ≡ length stands → lent ≡ stands → columns ≡ m.columns →
+    line (codes "basis" ∷ letters (take (length columns) lent) ∷ letters (drop (length columns) lent) ∷ []) ≡ line (basis_line (counts_of m) (stand_at b))
 basis_printed m b stands lent columns e l p q =
-    ap (λ (z : List ToldStand). line (codes "basis" ∷ letters (map stand_of (take (length columns) z)) ∷ letters (map stand_of (drop (length columns) z)) ∷ [])) p
-    ∙ ap (λ (z : List Column). line (codes "basis" ∷ letters (map stand_of (take (length z) stands)) ∷ letters (map stand_of (drop (length z) stands)) ∷ [])) q
+    ap (λ (z : List Stand). line (codes "basis" ∷ letters (take (length columns) z) ∷ letters (drop (length columns) z) ∷ [])) p
+    ∙ ap (λ (z : List Column). line (codes "basis" ∷ letters (take (length z) stands) ∷ letters (drop (length z) stands) ∷ [])) q
     ∙ basis_joined (counts_of m) b stands e l

@@ -17,8 +17,7 @@ use Rattle.pami_mps.specs.Line.{Line, text_lines}
 use Rattle.pami_mps.specs.Gather.{seen, rows_of, values_of, row_of, bounds_of, only_of, given_for}
 use Rattle.pami_mps.specs.Mps.{Mps}
 use Rattle.pami_theory.specs.Violation.{width}
-use Rattle.pami_state.specs.Columns.{limits_by}
-use Rattle.pami_form.specs.Model.{model_form}
+use Rattle.pami_model_form.specs.ModelForm.{model_form}
 use Rattle.pami_form.specs.Widths.{first_wide}
 use Rattle.pami_form.proofs.Wide.{none_wide}
 use Rattle.pami_cli.proofs.Accepted.{small_of}
@@ -27,25 +26,25 @@ not_itself : (t : Bool) (q : Fraction) → (t ≡ true → ⊥) → (if t then S
 not_itself true q h = absurd (h refl)
 not_itself false q h = refl
 
-row_narrow : (k : RowKind) (b : Fraction) → width (limits_by (bounds_of k b)) ≡ None
+row_narrow : (k : RowKind) (b : Fraction) → width (bounds_of k b) ≡ None
 row_narrow Free b = refl
 row_narrow AtMost b = refl
 row_narrow AtLeast b = refl
 row_narrow Equal b = not_itself (is_below b b) b (λ e. lt_irrefl_f b ((is_below_iff b b).0 e))
 
 abbrev RowsNarrow : Contents → Type 0
-RowsNarrow c = All (λ (row : Row). width (limits_by row.bounds) ≡ None) c.rows
+RowsNarrow c = All (λ (row : Row). width row.bounds ≡ None) c.rows
 
 rows_narrow : (ls : List Line) → RowsNarrow (contents_of (seen ls).draft)
-rows_narrow ls = All-map (λ (row : Row). width (limits_by row.bounds) ≡ None) (row_of (values_of ls)) (rows_of ls) (λ k d l. let r = get_or (rows_of ls) k d in row_narrow r.kind (only_of (given_for (values_of ls) r.name)))
+rows_narrow ls = All-map (λ (row : Row). width row.bounds ≡ None) (row_of (values_of ls)) (rows_of ls) (λ k d l. let r = get_or (rows_of ls) k d in row_narrow r.kind (only_of (given_for (values_of ls) r.name)))
 
-column_narrow : (b : Bounds) → b ≡ nonnegative → width (limits_by b) ≡ None
-column_narrow b e = ap (λ x. width (limits_by x)) e
+column_narrow : (b : Bounds) → b ≡ nonnegative → width b ≡ None
+column_narrow b e = ap (λ x. width x) e
 
 all_narrow : (c : Contents) → All (λ (column : Column). column.bounds ≡ nonnegative) c.columns → RowsNarrow c → All (λ l. width l ≡ None) (model_form c).bounds
-all_narrow c h k = All-append (λ l. width l ≡ None) (map (λ (column : Column). limits_by column.bounds) c.columns) (map (λ (row : Row). limits_by row.bounds) c.rows)
-    (All-map (λ l. width l ≡ None) (λ (column : Column). limits_by column.bounds) c.columns (λ j d l. column_narrow _ (h j d l)))
-    (All-map (λ l. width l ≡ None) (λ (row : Row). limits_by row.bounds) c.rows k)
+all_narrow c h k = All-append (λ l. width l ≡ None) (map (λ (column : Column). column.bounds) c.columns) (map (λ (row : Row). row.bounds) c.rows)
+    (All-map (λ l. width l ≡ None) (λ (column : Column). column.bounds) c.columns (λ j d l. column_narrow _ (h j d l)))
+    (All-map (λ l. width l ≡ None) (λ (row : Row). row.bounds) c.rows k)
 
 -- no variable of such a model is boxed
 pub unboxed : (bytes : List ℕ) (c : Contents) → Mps bytes c → All (λ l. width l ≡ None) (model_form c).bounds

@@ -5,18 +5,8 @@ use Rattle.pami_algebra.specs.Fraction.{Fraction}
 use Rattle.pami_frac.specs.declared.arithmetic.Refused.{Refused}
 use Rattle.pami_script.specs.Script.{each}
 use Rattle.pami_script.proofs.Loops.{each_goes, each_stops}
-use Rattle.pami_text.specs.Record.{kept_or_none}
-use Rattle.pami_cli.specs.Form.{member}
-
--- a member that was read
-pub member_read : {X A : Type 0} (f : X → A) (d : A) (xs : List X) (i : ℕ) (x : X) → i < length xs → x ≡ get_or xs i x → f x ≡ member f d xs i
-member_read f d [] i x l e = absurd (omega arith)
-member_read f d (y ∷ xs) zero x l e = ap f e
-member_read f d (y ∷ xs) (suc i) x l e =
-    let k : suc i - 1 ≡ i = omega arith in
-    member_read f d xs i x (omega arith) e
-    ∙ ap (member f d xs) (sym k)
-    ∙ sym (cond-false (nat_eq (suc i) 0) (f y) _ (ne_eqb (suc i) 0 (λ h. absurd (omega (arith, h)))))
+use Rattle.pami_lines.specs.Certificate.{kept_or_none}
+use Rattle.pami_model_form.specs.ModelForm.{member}
 
 -- a result that is kept, or not
 pub kept_is : (r : Result Fraction Refused) (x : Fraction) → Some x ≡ kept_or_none r → r ≡ Ok x

@@ -3,24 +3,31 @@ use Rattle.std.proofs.lemmas.List.{length-replicate}
 use Rattle.std.proofs.Common.{suc, ◌≡◌, ℕ, ◌<◌, ◌⊎◌, inl, inr, List, length, Option, None, Some, Result, Ok, Err, refl, sym, ap, ◌∙◌, subst, arith, replicate}
 use Rattle.std.specs.Result.{IfOk}
 use Rattle.pami_frac.specs.declared.fault.OutOfMemory.{OutOfMemory}
-use Rattle.pami_edge.specs.Outside.{Files, HasFile, HasLongFile, Rose, Grows}
+use Rattle.pami_edge.specs.Outside.{Files, HasFile, HasLongFile}
+use Rattle.pami_edge.specs.Calls.{ShelfFailed, SinkFailed, Wrote}
+use Rattle.pami_words.specs.declared.command.BadWords.{BadWords}
+use Rattle.pami_words.specs.declared.command.Command.{Command}
+use Rattle.pami_words.specs.declared.command.Command.TheVariants.{Solve}
 use Rattle.pami_model.specs.Contents.{Contents}
 use Rattle.pami_mps.specs.Mps.{Mps, byte_limit}
 use Rattle.pami_mps.proofs.Whole.{one_model, too_long}
 use Rattle.pami_cli.specs.declared.status.Status.{Status}
 use Rattle.pami_cli.specs.declared.status.Status.TheVariants as statuses
-use Rattle.pami_cli.specs.declared.solve.Answer.{Answer}
-use Rattle.pami_cli.specs.Words.{Ask, ask_of}
+use Rattle.pami_cli.specs.declared.answer.Answer.{Answer}
 use Rattle.pami_cli.specs.Text.{refused_text}
 use Rattle.pami_cli.specs.Answer.{AnswersModel}
-use Rattle.pami_cli.specs.Run.{Answers, IsModelAnswer, IsRefused, IsAnswered, IsDue, IsWrittenBy, IsComplete, Call, Ends, IsOrFault}
+use Rattle.pami_cli.specs.Run.{Answers, IsModelAnswer, IsRefused, IsAnswered, IsDue, IsWrittenBy, IsComplete, Call, AskFor, AreBad, Ends, IsOrFault}
 use Rattle.pami_cli.proofs.Answers.{one_model_answer}
 
 some_same : {A : Type 0} {x y : A} → Some x ≡ Some y → x ≡ y
 some_same e = cc
 
-none_some : {A : Type 0} {x : A} → ◌≡◌ {A = Option A} None (Some x) → ⊥
-none_some e = cc
+-- words ask for one thing, and not as well for nothing
+same_asked : {file other : List ℕ} {limit most : ℕ} → ◌≡◌ {A = Result Command BadWords} (Ok (Solve file limit)) (Ok (Solve other most)) → (file ≡ other) × (limit ≡ most)
+same_asked e = (cc, cc)
+
+bad_asked : {bad : BadWords} {file : List ℕ} {limit : ℕ} → ◌≡◌ {A = Result Command BadWords} (Err bad) (Ok (Solve file limit)) → ⊥
+bad_asked e = cc
 
 -- a model's answer is that of its text
 pub answered_ok : (bytes : List ℕ) (limit : ℕ) (c : Contents) (r : Result Answer OutOfMemory) → Mps bytes c → IfOk r (λ a. AnswersModel c limit a.status a.text.items) → IfOk r (λ a. Answers bytes limit a.status a.text.items)
@@ -37,14 +44,14 @@ long_file None name h = let long = long_list byte_limit in (long.0, (tt, record 
 long_file (Some files) name h = (h.0, (h.1, record { no_model = too_long h.0 h.2; status_is = refl; written_is = refl }))
 
 -- a call ends with what it wrote of an answer
-module _ (k : Call) (result : Status) (asked : Ask) (asks : ask_of k.words ≡ Some asked) where
-  pub ends_answered : (bytes : List ℕ) (s : Status) (t : List ℕ) → HasFile k.files asked.file bytes → Answers bytes asked.limit s t
-      → IsWrittenBy k.told_before k.told_after k.sink_before k.sink_after result s t → Ends k result
+module _ (k : Call) (result : Status) (file : List ℕ) (limit : ℕ) (asks : AskFor k.words file limit) where
+  pub ends_answered : (bytes : List ℕ) (s : Status) (t : List ℕ) → HasFile k.shelf.files file bytes → Answers bytes limit s t
+      → IsWrittenBy k.sink result s t → Ends k result
   ends_answered bytes s t h a w =
-      inr (record { due = s; written = t; is_due = inr (inr (record { asked = asked; bytes = bytes; asks = asks; under = h; answer = a })); as_far = w })
+      inr (record { due = s; written = t; is_due = inr (inr (record { file = file; limit = limit; bytes = bytes; asks = asks; under = h; answer = a })); as_far = w })
 
-  pub ends_too_long : HasLongFile k.files asked.file byte_limit → IsWrittenBy k.told_before k.told_after k.sink_before k.sink_after result statuses.File refused_text → Ends k result
-  ends_too_long long w = let l = long_file k.files asked.file long in ends_answered l.0 statuses.File refused_text l.1.0 (inr l.1.1) w
+  pub ends_too_long : HasLongFile k.shelf.files file byte_limit → IsWrittenBy k.sink result statuses.File refused_text → Ends k result
+  ends_too_long long w = let l = long_file k.shelf.files file long in ends_answered l.0 statuses.File refused_text l.1.0 (inr l.1.1) w
 
 -- what the words and the bytes are answered is one status and one text
 module _ (bytes : List ℕ) (limit : ℕ) where
@@ -59,23 +66,23 @@ module _ (bytes : List ℕ) (limit : ℕ) where
 
 -- exactly that answer, or a fault in its place
 abbrev IsExactly : Call → Status → Status → List ℕ → Type 0
-IsExactly k result s w = ((result ≡ s) × Grows k.told_before k.told_after w) ⊎ IsOrFault result statuses.ReadFault
+IsExactly k result s w = ((result ≡ s) × Wrote k.sink w) ⊎ IsOrFault result statuses.ReadFault
 
-module _ (k : Call) (files : Files) (asked : Ask) (bytes written : List ℕ) (status : Status) (told : k.files ≡ Some files) (stands : files asked.file ≡ Some bytes) (asks : ask_of k.words ≡ Some asked) (answer : Answers bytes asked.limit status written) where
-  same_answer : (s : Status) (w : List ℕ) (a : IsAnswered k s w) → Answers bytes asked.limit s w
+module _ (k : Call) (files : Files) (file : List ℕ) (limit : ℕ) (bytes written : List ℕ) (status : Status) (told : k.shelf.files ≡ Some files) (stands : files file ≡ Some bytes) (asks : AskFor k.words file limit) (answer : Answers bytes limit status written) where
+  same_answer : (s : Status) (w : List ℕ) (a : IsAnswered k s w) → Answers bytes limit s w
   same_answer s w a =
-      let n : a.asked ≡ asked = some_same (sym a.asks ∙ asks) in
-      let h : files a.asked.file ≡ Some a.bytes = subst (λ f. HasFile f a.asked.file a.bytes) told a.under in
-      let b : a.bytes ≡ bytes = some_same (sym h ∙ ap (λ x. files x.file) n ∙ stands) in
-      subst (λ x. Answers x asked.limit s w) b (subst (λ x. Answers a.bytes x.limit s w) n a.answer)
+      let n : (a.file ≡ file) × (a.limit ≡ limit) = same_asked (sym a.asks ∙ asks) in
+      let h : files a.file ≡ Some a.bytes = subst (λ f. HasFile f a.file a.bytes) told a.under in
+      let b : a.bytes ≡ bytes = some_same (sym h ∙ ap files n.0 ∙ stands) in
+      subst (λ x. Answers x limit s w) b (subst (λ x. Answers a.bytes x s w) n.1 a.answer)
 
-  agreed : (result due : Status) (w : List ℕ) → IsAnswered k due w → (result ≡ due) × Grows k.told_before k.told_after w → IsExactly k result status written
+  agreed : (result due : Status) (w : List ℕ) → IsAnswered k due w → (result ≡ due) × Wrote k.sink w → IsExactly k result status written
   agreed result due w d g =
-      let o = one_answer bytes asked.limit due status w written (same_answer due w d) answer in
-      inl (g.0 ∙ o.0, subst (Grows k.told_before k.told_after) o.1 g.1)
+      let o = one_answer bytes limit due status w written (same_answer due w d) answer in
+      inl (g.0 ∙ o.0, subst (Wrote k.sink) o.1 g.1)
 
-  exactly_due : (result due : Status) (w : List ℕ) → IsDue k due w → (result ≡ due) × Grows k.told_before k.told_after w → IsExactly k result status written
-  exactly_due result due w (inl bad) g = absurd (none_some (sym bad.not_asked ∙ asks))
+  exactly_due : (result due : Status) (w : List ℕ) → IsDue k due w → (result ≡ due) × Wrote k.sink w → IsExactly k result status written
+  exactly_due result due w (inl bad) g = absurd (bad_asked (sym bad.bad ∙ asks))
   exactly_due result due w (inr (inl d)) g = inr (inl (g.0 ∙ d.status_is))
   exactly_due result due w (inr (inr d)) g = agreed result due w d g
 
@@ -83,35 +90,35 @@ module _ (k : Call) (files : Files) (asked : Ask) (bytes written : List ℕ) (st
   ends_exactly result (inl o) = inr (inr (inr (inr o.0)))
   ends_exactly result (inr w) = go w.as_far
     where
-      go : IsWrittenBy k.told_before k.told_after k.sink_before k.sink_after result w.due w.written → IsExactly k result status written
+      go : IsWrittenBy k.sink result w.due w.written → IsExactly k result status written
       go (inl g) = exactly_due result w.due w.written w.is_due g
       go (inr f) = inr (inr (inr (inl f.0)))
 
--- where the words ask for a file and no count of faults rose, what is due is an answer, and it was written whole
-module _ (k : Call) (asked : Ask) (asks : ask_of k.words ≡ Some asked) (read : Rose k.shelf_before k.shelf_after → ⊥) (wrote : Rose k.sink_before k.sink_after → ⊥) where
-  complete_due : (result due : Status) (w : List ℕ) → IsDue k due w → (result ≡ due) × Grows k.told_before k.told_after w → IsComplete k result
-  complete_due result due w (inl bad) g = absurd (none_some (sym bad.not_asked ∙ asks))
-  complete_due result due w (inr (inl d)) g = absurd (read d.rose)
+-- where the words ask for a file and neither the shelf nor the sink failed, what is due is an answer, and it was written whole
+module _ (k : Call) (file : List ℕ) (limit : ℕ) (asks : AskFor k.words file limit) (read : ShelfFailed k.shelf → ⊥) (wrote : SinkFailed k.sink → ⊥) where
+  complete_due : (result due : Status) (w : List ℕ) → IsDue k due w → (result ≡ due) × Wrote k.sink w → IsComplete k result
+  complete_due result due w (inl bad) g = absurd (bad_asked (sym bad.bad ∙ asks))
+  complete_due result due w (inr (inl d)) g = absurd (read d.failed)
   complete_due result due w (inr (inr d)) g = inr (w, subst (λ s. IsAnswered k s w) (sym g.0) d, g.1)
 
   pub ends_complete : (result : Status) → Ends k result → IsComplete k result
   ends_complete result (inl o) = inl o.0
   ends_complete result (inr w) = go w.as_far
     where
-      go : IsWrittenBy k.told_before k.told_after k.sink_before k.sink_after result w.due w.written → IsComplete k result
+      go : IsWrittenBy k.sink result w.due w.written → IsComplete k result
       go (inl g) = complete_due result w.due w.written w.is_due g
       go (inr f) = absurd (wrote f.1)
 
 -- bad words are answered as such, or writing or memory failed
-pub ends_bad_words : (k : Call) → ask_of k.words ≡ None → (result : Status) → Ends k result → (result ≡ statuses.Words) ⊎ ((result ≡ statuses.WriteFault) ⊎ (result ≡ statuses.OutOfMemory))
+pub ends_bad_words : (k : Call) → AreBad k.words → (result : Status) → Ends k result → (result ≡ statuses.Words) ⊎ ((result ≡ statuses.WriteFault) ⊎ (result ≡ statuses.OutOfMemory))
 ends_bad_words k bad result (inl o) = inr (inr o.0)
 ends_bad_words k bad result (inr w) = go w.as_far
   where
     due : (s : Status) (t : List ℕ) → IsDue k s t → s ≡ statuses.Words
     due s t (inl d) = d.status_is
-    due s t (inr (inl d)) = absurd (none_some (sym bad ∙ d.asks))
-    due s t (inr (inr d)) = absurd (none_some (sym bad ∙ d.asks))
+    due s t (inr (inl d)) = absurd (bad_asked (sym bad ∙ d.asks))
+    due s t (inr (inr d)) = absurd (bad_asked (sym bad ∙ d.asks))
 
-    go : IsWrittenBy k.told_before k.told_after k.sink_before k.sink_after result w.due w.written → (result ≡ statuses.Words) ⊎ ((result ≡ statuses.WriteFault) ⊎ (result ≡ statuses.OutOfMemory))
+    go : IsWrittenBy k.sink result w.due w.written → (result ≡ statuses.Words) ⊎ ((result ≡ statuses.WriteFault) ⊎ (result ≡ statuses.OutOfMemory))
     go (inl g) = inl (g.0 ∙ due w.due w.written w.is_due)
     go (inr f) = inr (inl f.0)

@@ -14,8 +14,11 @@ use Rattle.pami_theory.specs.Fresh.{Fresh, IsFresh, IsDualFeasible}
 use Rattle.pami_theory.specs.Start.{starting_basis}
 use Rattle.pami_theory.proofs.Starts.{start_is_basis}
 use Rattle.pami_theory.proofs.Solved.{start_regular, has_fresh}
-use Rattle.pami_method.specs.Place.{Start, RefusedAt}
-use Rattle.pami_method.specs.Walk.{Options, State, Full, Major, WalkEnd, IsWalk}
+use Rattle.pami_method.specs.declared.words.Place.{Place}
+use Rattle.pami_method.specs.declared.words.Spot.TheVariants.{Start}
+use Rattle.pami_method.specs.declared.words.Mode.TheVariants.{Full}
+use Rattle.pami_method.specs.declared.words.Options.{Options}
+use Rattle.pami_method.specs.Walk.{State, Major, WalkEnd, IsWalk}
 use Rattle.pami_method.specs.Phases.{Record, Answer, Optimal, Infeasible, DualInfeasible, Limit, Overflow, IsAnswer, IsRun, refused_start, in_phase_two, on_form, starting_state, start_refused}
 use Rattle.pami_method.proofs.Answers.{run_holds}
 use Rattle.pami_state.specs.declared.state.State.{State as ProgramState}
@@ -23,19 +26,20 @@ use Rattle.pami_state.specs.Columns.{rows_of, form_by, IsForm, HasBounds}
 use Rattle.pami_state.specs.State.{basis_of, IsSolvedAfresh}
 use Rattle.pami_state.proofs.Formed.{has_bounds, variables_are}
 use Rattle.pami_state.proofs.Known.{stands_by_bounds, reduced_by_bounds}
-use Rattle.pami_text.specs.Line.{line, text}
-use Rattle.pami_text.specs.Answer.{head_lines, phase_line}
+use Rattle.pami_lines.specs.Line.{line, text}
+use Rattle.pami_lines.specs.Head.{head_lines, phase_line}
 use Rattle.pami_text.specs.Record.{walk_lines, answer_lines, refused_words}
-use Rattle.pami_text.proofs.Texts.{text_append, text_one}
-use Rattle.pami_text.proofs.Objectives.{objective_holds}
+use Rattle.pami_lines.proofs.Texts.{text_append, text_one}
+use Rattle.pami_lines.proofs.Objectives.{objective_holds}
 use Rattle.pami_log.specs.declared.event.Event.{Event}
-use Rattle.pami_log.specs.Events.{names_of, counts_of, event_lines, events_of}
+use Rattle.pami_model_form.specs.Named.{names_of, counts_of, named_of}
+use Rattle.pami_log.specs.Events.{event_lines, events_of}
 use Rattle.pami_log.proofs.Lines.{walk_is}
 use Rattle.pami_cli.specs.declared.status.Status.{Status}
 use Rattle.pami_cli.specs.declared.status.Status.TheVariants as statuses
-use Rattle.pami_cli.specs.Form.{form_of}
-use Rattle.pami_cli.specs.Text.{named_of, begun_text, run_text, phase_one_text}
-use Rattle.pami_cli.specs.declared.solve.Answer.{Answer as Answered}
+use Rattle.pami_model_form.specs.ModelForm.{model_form}
+use Rattle.pami_cli.specs.Text.{begun_text, run_text, phase_one_text}
+use Rattle.pami_cli.specs.declared.answer.Answer.{Answer as Answered}
 use Rattle.pami_cli.specs.Solved.{IsStart}
 use Rattle.pami_cli.specs.Answer.{options_of, HasStatus, HoldsFor, AnswersRun, AnswersPhaseOne, AnswersModel}
 
@@ -62,25 +66,25 @@ run_text_is c o f start majors answer events e =
     ∙ sym (text_append heads ((phase_line 2 ∷ walk) ++ last))
 
 -- a run whose starting values don't fit has a head and the line of its answer
-pub refused_text_is : (c : Contents) (o : Options) (r : RefusedAt) →
+pub refused_text_is : (c : Contents) (o : Options) (r : Place) →
     text (head_lines (counts_of c)) ++ line (codes "answer" ∷ codes "overflow" ∷ refused_words r) ≡ run_text c o (record { phase_one = None; phase_two = None }) (Overflow r)
 refused_text_is c o r =
     ap (λ (z : List ℕ). text (head_lines (counts_of c)) ++ z) (sym (text_one (codes "answer" ∷ codes "overflow" ∷ refused_words r)))
     ∙ sym (text_append (head_lines (counts_of c)) (answer_lines (named_of c) (Overflow r)))
 
 -- ---- certificates
-run_answer_holds : (c : Contents) (o : Options) (told : Record) (a : Answer) (status : Status) → ((v : ℕ) → v < variables (form_of c) → IsUncrossed (limits (form_of c) v)) → HasStatus a status → IsRun (form_of c) o told a → HoldsFor c a
-run_answer_holds c o told (Optimal st s) status u k h = record { certificate = run_holds (form_of c) o told (Optimal st s) h u; objective = objective_holds (named_of c) (get s.values) }
-run_answer_holds c o told (Infeasible y) status u k h = run_holds (form_of c) o told (Infeasible y) h
+run_answer_holds : (c : Contents) (o : Options) (told : Record) (a : Answer) (status : Status) → ((v : ℕ) → v < variables (model_form c) → IsUncrossed (limits (model_form c) v)) → HasStatus a status → IsRun (model_form c) o told a → HoldsFor c a
+run_answer_holds c o told (Optimal st s) status u k h = record { certificate = run_holds (model_form c) o told (Optimal st s) h u; objective = objective_holds (named_of c) (get s.values) }
+run_answer_holds c o told (Infeasible y) status u k h = run_holds (model_form c) o told (Infeasible y) h
 run_answer_holds c o told (DualInfeasible st s) status u k h = absurd k
 run_answer_holds c o told (Limit st) status u k h = tt
 run_answer_holds c o told (Overflow r) status u k h = tt
 
 -- ---- answers; f is the model's form
-module _ (c : Contents) (limit : ℕ) (f : Form) (is : f ≡ form_of c) (uncrossed : (v : ℕ) → v < variables f → IsUncrossed (limits f v)) where
+module _ (c : Contents) (limit : ℕ) (f : Form) (is : f ≡ model_form c) (uncrossed : (v : ℕ) → v < variables f → IsUncrossed (limits f v)) where
   answered : (told : Record) (a : Answer) (status : Status) (written : List ℕ) → told.phase_one ≡ None → IsRun f (options_of limit) told a → HasStatus a status → written ≡ run_text c (options_of limit) told a → AnswersRun c limit status written
   answered told a status written n h k w =
-      let run : IsRun (form_of c) (options_of limit) told a = subst (λ g. IsRun g (options_of limit) told a) is h in
+      let run : IsRun (model_form c) (options_of limit) told a = subst (λ g. IsRun g (options_of limit) told a) is h in
       record {
         told = told;
         answer = a;
@@ -93,11 +97,11 @@ module _ (c : Contents) (limit : ℕ) (f : Form) (is : f ≡ form_of c) (uncross
 
   -- the starting values don't fit
   pub refused_answers : (refused : Refused) (written : List ℕ) → ((s : Fresh) → IsFresh f (starting_basis f) s → start_refused f s ≡ Some refused) →
-      written ≡ text (head_lines (counts_of c)) ++ line (codes "answer" ∷ codes "overflow" ∷ refused_words (record { spot = Start; refused = refused })) → AnswersRun c limit statuses.Overflow written
+      written ≡ text (head_lines (counts_of c)) ++ line (codes "answer" ∷ codes "overflow" ∷ refused_words (record { task = Start; refused = refused })) → AnswersRun c limit statuses.Overflow written
   refused_answers refused written h w =
       let s = has_fresh f (starting_basis f) (start_is_basis f) (start_regular f) in
-      answered (record { phase_one = None; phase_two = None }) (Overflow (record { spot = Start; refused = refused })) statuses.Overflow written refl
-      (refused_start s.0 refused s.1 (h s.0 s.1)) refl (w ∙ refused_text_is c (options_of limit) (record { spot = Start; refused = refused }))
+      answered (record { phase_one = None; phase_two = None }) (Overflow (record { task = Start; refused = refused })) statuses.Overflow written refl
+      (refused_start s.0 refused s.1 (h s.0 s.1)) refl (w ∙ refused_text_is c (options_of limit) (record { task = Start; refused = refused }))
 
   -- the walk of phase two ends with this answer
   pub walk_answers : (s : Fresh) (majors : List Major) (end : WalkEnd) (a : Answer) (status : Status) (events : List Event) (written : List ℕ) → IsFresh f (starting_basis f) s → start_refused f s ≡ None → IsDualFeasible f (starting_basis f) →
@@ -130,18 +134,18 @@ lent_form columns cs bounds bs costs ds g e h k is = ap (λ x. form_by x bs ds) 
 pub lent_kept : (columns cs : List (List Fraction)) (bounds bs : List Bounds) (costs ds : List Fraction) → cs ≡ columns → bs ≡ bounds → ds ≡ costs → IsForm columns bounds costs → IsForm cs bs ds
 lent_kept columns cs bounds bs costs ds e h k is = subst (λ x. IsForm x bs ds) (sym e) (subst (λ x. IsForm columns x ds) (sym h) (subst (IsForm columns bounds) (sym k) is))
 
-module _ (c : Contents) (limit : ℕ) (cs : List (List Fraction)) (bs : List Bounds) (ds : List Fraction) (form : IsForm cs bs ds) (is : form_by cs bs ds ≡ form_of c) where
+module _ (c : Contents) (limit : ℕ) (cs : List (List Fraction)) (bs : List Bounds) (ds : List Fraction) (form : IsForm cs bs ds) (is : form_by cs bs ds ≡ model_form c) where
   abbrev lists_form : Form
   lists_form = form_by cs bs ds
 
   uncrossed_lists : (v : ℕ) → v < variables lists_form → IsUncrossed (limits lists_form v)
   uncrossed_lists v l = form.uncrossed v (subst (λ n. v < n) (variables_are cs bs ds form) l)
 
-  pub uncrossed_model : (v : ℕ) → v < variables (form_of c) → IsUncrossed (limits (form_of c) v)
+  pub uncrossed_model : (v : ℕ) → v < variables (model_form c) → IsUncrossed (limits (model_form c) v)
   uncrossed_model = subst (λ f. (v : ℕ) → v < variables f → IsUncrossed (limits f v)) is uncrossed_lists
 
   pub refused_model : (r : Result Answered OutOfMemory) (refused : Refused) → ((s : Fresh) → IsFresh lists_form (starting_basis lists_form) s → start_refused lists_form s ≡ Some refused) →
-      IfOk r (λ a. a.status ≡ statuses.Overflow) → IfOk r (λ a. a.text.items ≡ text (head_lines (counts_of c)) ++ line (codes "answer" ∷ codes "overflow" ∷ refused_words (record { spot = Start; refused = refused }))) →
+      IfOk r (λ a. a.status ≡ statuses.Overflow) → IfOk r (λ a. a.text.items ≡ text (head_lines (counts_of c)) ++ line (codes "answer" ∷ codes "overflow" ∷ refused_words (record { task = Start; refused = refused }))) →
       IfOk r (λ a. AnswersModel c limit a.status a.text.items)
   refused_model r refused h p q = if_ok_both r p q (λ a e w. inl (subst (λ s. AnswersRun c limit s a.text.items) (sym e) (refused_answers c limit lists_form is uncrossed_lists refused a.text.items h w)))
 
@@ -158,11 +162,11 @@ module _ (c : Contents) (limit : ℕ) (cs : List (List Fraction)) (bs : List Bou
     pub start_reduced : length st.reduced ≡ length bs
     start_reduced = reduced_by_bounds lists_form bs st (has_bounds cs bs ds form) solved
 
-    pub start_is : st.weights ≡ replicate (rows_of cs) 1 → st.pivots ≡ 0 → IsStart (form_of c) st
+    pub start_is : st.weights ≡ replicate (rows_of cs) 1 → st.pivots ≡ 0 → IsStart (model_form c) st
     start_is w p = subst (λ f. IsStart f st) is (record { basis = at; solved = solved; weights = w; pivots = p; fits = fits })
 
     module _ (result : Bool) (signs : (f : Form) → HasBounds f bs → IsSolvedAfresh f st → IsTrue result ↔ IsDualFeasible f (basis_of st)) where
-      pub feasible_model : result ≡ true → IsDualFeasible (form_of c) (starting_basis (form_of c))
+      pub feasible_model : result ≡ true → IsDualFeasible (model_form c) (starting_basis (model_form c))
       feasible_model e = subst (λ f. IsDualFeasible f (starting_basis f)) is (subst (IsDualFeasible lists_form) at ((signs lists_form (has_bounds cs bs ds form) solved).0 e))
 
       pub phase_one_model : result ≡ false → (written : List ℕ) → written ≡ phase_one_text → AnswersModel c limit statuses.NeedsPhaseOne written

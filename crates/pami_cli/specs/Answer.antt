@@ -5,13 +5,14 @@ use Rattle.pami_model.specs.Contents.{Contents}
 use Rattle.pami_theory.specs.Fresh.{Fresh, IsFresh, IsDualFeasible}
 use Rattle.pami_theory.specs.Start.{starting_basis}
 use Rattle.pami_theory.specs.Certificate.{HoldsOptimal, HoldsInfeasible, HoldsDualInfeasible, HoldsObjective}
-use Rattle.pami_method.specs.Walk.{Options}
+use Rattle.pami_method.specs.declared.words.Options.{Options}
 use Rattle.pami_method.specs.Phases.{Record, Answer, Optimal, Infeasible, DualInfeasible, Limit, Overflow, IsRun, start_refused}
-use Rattle.pami_text.specs.Record.{objective_in}
+use Rattle.pami_lines.specs.Certificate.{objective_in}
 use Rattle.pami_cli.specs.declared.status.Status.{Status}
 use Rattle.pami_cli.specs.declared.status.Status.TheVariants as statuses
-use Rattle.pami_cli.specs.Form.{form_of}
-use Rattle.pami_cli.specs.Text.{named_of, run_text, phase_one_text}
+use Rattle.pami_model_form.specs.ModelForm.{model_form}
+use Rattle.pami_model_form.specs.Named.{named_of}
+use Rattle.pami_cli.specs.Text.{run_text, phase_one_text}
 
 -- one row a major, a new elimination in each, and this limit of pivots
 abbrev pub options_of : ℕ → Options
@@ -28,13 +29,13 @@ HasStatus (Overflow refused) status = status ≡ statuses.Overflow
 -- what an answer tells holds against the model: values and reduced costs with the objective, or a combination of the rows
 -- that no point meets, or a direction along which the cost falls without end
 pub record HoldsBest (c : Contents) (s : Fresh) : Type 0 where
-  pub certificate : HoldsOptimal (form_of c) (get s.values) (get s.reduced)
+  pub certificate : HoldsOptimal (model_form c) (get s.values) (get s.reduced)
   pub objective : HoldsObjective (named_of c).constant (named_of c).counts.columns (named_of c).cost (get s.values) (objective_in (named_of c) (get s.values))
 
 abbrev pub HoldsFor : Contents → Answer → Type 0
 HoldsFor c (Optimal st s) = HoldsBest c s
-HoldsFor c (Infeasible y) = HoldsInfeasible (form_of c) (get y)
-HoldsFor c (DualInfeasible st s) = HoldsDualInfeasible (form_of c) (get s.values)
+HoldsFor c (Infeasible y) = HoldsInfeasible (model_form c) (get y)
+HoldsFor c (DualInfeasible st s) = HoldsDualInfeasible (model_form c) (get s.values)
 HoldsFor c (Limit st) = Unit {0}
 HoldsFor c (Overflow refused) = Unit {0}
 
@@ -42,7 +43,7 @@ HoldsFor c (Overflow refused) = Unit {0}
 pub record AnswersRun (c : Contents) (limit : ℕ) (status : Status) (written : List ℕ) : Type 0 where
   pub told : Record
   pub answer : Answer
-  pub run : IsRun (form_of c) (options_of limit) told answer
+  pub run : IsRun (model_form c) (options_of limit) told answer
   pub without_phase_one : told.phase_one ≡ None
   pub has_status : HasStatus answer status
   pub holds : HoldsFor c answer
@@ -51,9 +52,9 @@ pub record AnswersRun (c : Contents) (limit : ℕ) (status : Status) (written : 
 -- the starting values fit, and the starting basis isn't dual feasible
 pub record AnswersPhaseOne (c : Contents) (status : Status) (written : List ℕ) : Type 0 where
   pub start : Fresh
-  pub fresh : IsFresh (form_of c) (starting_basis (form_of c)) start
-  pub fits : start_refused (form_of c) start ≡ None
-  pub not_dual_feasible : ¬ IsDualFeasible (form_of c) (starting_basis (form_of c))
+  pub fresh : IsFresh (model_form c) (starting_basis (model_form c)) start
+  pub fits : start_refused (model_form c) start ≡ None
+  pub not_dual_feasible : ¬ IsDualFeasible (model_form c) (starting_basis (model_form c))
   pub status_is : status ≡ statuses.NeedsPhaseOne
   pub written_is : written ≡ phase_one_text
 

@@ -1,9 +1,5 @@
-pub mod Words
-pub mod Asked
 pub mod Status
-pub mod Form
 pub mod Text
-pub mod Values
 pub mod Solved
 pub mod Answer
 pub mod Run

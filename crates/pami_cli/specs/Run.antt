@@ -1,11 +1,13 @@
 -- What a run answers on the words of a call and the bytes under FILE, and how a call may end.
-use Rattle.std.specs.Prelude.{◌≡◌, ℕ, ◌⊎◌, List, [], ◌∷◌, Option, None, Some}
-use Rattle.pami_edge.specs.Outside.{Files, HasFile, Rose, Grows, GrowsInPart, Keeps}
+use Rattle.std.specs.Prelude.{◌≡◌, ℕ, ◌⊎◌, List, [], ◌∷◌, Ok, Err}
+use Rattle.pami_edge.specs.Outside.{HasFile}
+use Rattle.pami_edge.specs.Calls.{ShelfCall, SinkCall, ShelfFailed, SinkFailed, Wrote, WrotePart, WroteNothing}
+use Rattle.pami_words.specs.declared.command.Command.TheVariants.{Solve}
+use Rattle.pami_words.specs.Words.{read_outcome}
 use Rattle.pami_model.specs.Contents.{Contents}
 use Rattle.pami_mps.specs.Mps.{Mps}
 use Rattle.pami_cli.specs.declared.status.Status.{Status}
 use Rattle.pami_cli.specs.declared.status.Status.TheVariants.{Words, File, ReadFault, WriteFault, OutOfMemory}
-use Rattle.pami_cli.specs.Words.{Ask, ask_of}
 use Rattle.pami_cli.specs.Answer.{AnswersModel}
 use Rattle.pami_cli.specs.Text.{bad_words_text, refused_text, read_fault_text}
 
@@ -25,49 +27,43 @@ pub record IsRefused (bytes : List ℕ) (status : Status) (written : List ℕ) :
 abbrev pub Answers : List ℕ → ℕ → Status → List ℕ → Type 0
 Answers bytes limit status written = IsModelAnswer bytes limit status written ⊎ IsRefused bytes status written
 
--- what a call was given, and what stood at its end: the words, the shelf's files and its count of faults, what the
--- sink tells of its bytes and its count of faults
+-- the words ask to solve this file with this limit of pivots; they are in no table
+abbrev pub AskFor : List (List ℕ) → List ℕ → ℕ → Type 0
+AskFor words file limit = read_outcome words ≡ Ok (Solve file limit)
+
+abbrev pub AreBad : List (List ℕ) → Type 0
+AreBad words = read_outcome words ≡ Err (record {})
+
+-- a call: its words, and what the shelf and the sink did in it
 pub record Call : Type 0 where
   pub words : List (List ℕ)
-  pub files : Option Files
-  pub shelf_before : ℕ
-  pub shelf_after : ℕ
-  pub told_before : Option (List ℕ)
-  pub told_after : Option (List ℕ)
-  pub sink_before : ℕ
-  pub sink_after : ℕ
+  pub shelf : ShelfCall
+  pub sink : SinkCall
 
-abbrev pub call : List (List ℕ) → Option Files → ℕ → ℕ → Option (List ℕ) → Option (List ℕ) → ℕ → ℕ → Call
-call words files shelf_before shelf_after told_before told_after sink_before sink_after = record {
-  words = words;
-  files = files;
-  shelf_before = shelf_before;
-  shelf_after = shelf_after;
-  told_before = told_before;
-  told_after = told_after;
-  sink_before = sink_before;
-  sink_after = sink_after;
-}
+abbrev pub call : List (List ℕ) → ShelfCall → SinkCall → Call
+call words shelf sink = record { words = words; shelf = shelf; sink = sink }
 
 -- the words ask for a file, and this is the answer on bytes that stand under that name
 pub record IsAnswered (call : Call) (status : Status) (written : List ℕ) : Type 0 where
-  pub asked : Ask
+  pub file : List ℕ
+  pub limit : ℕ
   pub bytes : List ℕ
-  pub asks : ask_of call.words ≡ Some asked
-  pub under : HasFile call.files asked.file bytes
-  pub answer : Answers bytes asked.limit status written
+  pub asks : AskFor call.words file limit
+  pub under : HasFile call.shelf.files file bytes
+  pub answer : Answers bytes limit status written
 
 -- the words are in the table, and the shelf failed
 pub record IsReadFault (call : Call) (status : Status) (written : List ℕ) : Type 0 where
-  pub asked : Ask
-  pub asks : ask_of call.words ≡ Some asked
+  pub file : List ℕ
+  pub limit : ℕ
+  pub asks : AskFor call.words file limit
   pub status_is : status ≡ ReadFault
-  pub rose : Rose call.shelf_before call.shelf_after
+  pub failed : ShelfFailed call.shelf
   pub written_is : written ≡ read_fault_text
 
 -- the words are in no table
 pub record AreBadWords (call : Call) (status : Status) (written : List ℕ) : Type 0 where
-  pub not_asked : ask_of call.words ≡ None
+  pub bad : AreBad call.words
   pub status_is : status ≡ Words
   pub written_is : written ≡ bad_words_text
 
@@ -76,25 +72,25 @@ abbrev pub IsDue : Call → Status → List ℕ → Type 0
 IsDue call status written = AreBadWords call status written ⊎ (IsReadFault call status written ⊎ IsAnswered call status written)
 
 -- what is due was written whole, with its status; or the sink failed, and some front of it was written
-abbrev pub IsWrittenBy : Option (List ℕ) → Option (List ℕ) → ℕ → ℕ → Status → Status → List ℕ → Type 0
-IsWrittenBy told_before told_after sink_before sink_after result due written =
-    ((result ≡ due) × Grows told_before told_after written)
-    ⊎ ((result ≡ WriteFault) × Rose sink_before sink_after × GrowsInPart told_before told_after written)
+abbrev pub IsWrittenBy : SinkCall → Status → Status → List ℕ → Type 0
+IsWrittenBy sink result due written =
+    ((result ≡ due) × Wrote sink written)
+    ⊎ ((result ≡ WriteFault) × SinkFailed sink × WrotePart sink written)
 
 -- a text was due, and was written as far as the sink took it
 pub record IsWritten (call : Call) (result : Status) : Type 0 where
   pub due : Status
   pub written : List ℕ
   pub is_due : IsDue call due written
-  pub as_far : IsWrittenBy call.told_before call.told_after call.sink_before call.sink_after result due written
+  pub as_far : IsWrittenBy call.sink result due written
 
 -- memory ran out and nothing was written, or what is due was written as far as the sink took it
 abbrev pub Ends : Call → Status → Type 0
-Ends call result = ((result ≡ OutOfMemory) × Keeps call.told_before call.told_after) ⊎ IsWritten call result
+Ends call result = ((result ≡ OutOfMemory) × WroteNothing call.sink) ⊎ IsWritten call result
 
 -- memory ran out, or the answer on bytes that stand under FILE was written whole
 abbrev pub IsComplete : Call → Status → Type 0
-IsComplete call result = (result ≡ OutOfMemory) ⊎ ((written : List ℕ) × IsAnswered call result written × Grows call.told_before call.told_after written)
+IsComplete call result = (result ≡ OutOfMemory) ⊎ ((written : List ℕ) × IsAnswered call result written × Wrote call.sink written)
 
 -- this status, or one of the faults that may take the place of any
 abbrev pub IsOrFault : Status → Status → Type 0
@@ -102,4 +98,4 @@ IsOrFault result status = (result ≡ status) ⊎ ((result ≡ ReadFault) ⊎ ((
 
 -- no name, or FILE alone
 abbrev pub AsksFor : List (List ℕ) → List (List ℕ) → Type 0
-AsksFor words asked = (asked ≡ []) ⊎ ((a : Ask) × (ask_of words ≡ Some a) × (asked ≡ a.file ∷ []))
+AsksFor words asked = (asked ≡ []) ⊎ ((file : List ℕ) × (limit : ℕ) × AskFor words file limit × (asked ≡ file ∷ []))

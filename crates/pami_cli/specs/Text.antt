@@ -5,23 +5,16 @@ use Rattle.pami_algebra.specs.Fraction.{Fraction}
 use Rattle.pami_linear.specs.Lists.{get}
 use Rattle.pami_model.specs.Contents.{Contents}
 use Rattle.pami_theory.specs.Basis.{Basis, stand_at}
-use Rattle.pami_method.specs.Walk.{Options}
+use Rattle.pami_method.specs.declared.words.Options.{Options}
 use Rattle.pami_method.specs.Phases.{Record, Answer}
-use Rattle.pami_text.specs.Line.{line, text}
-use Rattle.pami_text.specs.Answer.{head_lines, phase_line, optimal_lines, basis_line}
-use Rattle.pami_text.specs.Record.{Named, answer_line, certificate_of, run_lines}
+use Rattle.pami_lines.specs.Line.{line, text}
+use Rattle.pami_lines.specs.Head.{head_lines, phase_line}
+use Rattle.pami_lines.specs.Letters.{basis_line}
+use Rattle.pami_lines.specs.Certificate.{optimal_lines, answer_line, certificate_of}
+use Rattle.pami_text.specs.Record.{run_lines}
 use Rattle.pami_log.specs.declared.event.Event.{Event}
-use Rattle.pami_log.specs.Events.{names_of, counts_of, event_lines}
-use Rattle.pami_cli.specs.Form.{file_cost}
-
--- a model as its texts name it
-abbrev pub named_of : Contents → Named
-named_of c = record {
-  names = names_of c;
-  counts = counts_of c;
-  constant = c.constant;
-  cost = file_cost c;
-}
+use Rattle.pami_model_form.specs.Named.{names_of, counts_of, named_of}
+use Rattle.pami_log.specs.Events.{event_lines}
 
 -- the text of a run
 abbrev pub run_text : Contents → Options → Record → Answer → List ℕ

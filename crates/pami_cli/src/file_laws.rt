@@ -11,7 +11,7 @@ ghost use Rattle.pami_theory.specs.Fresh.{Fresh, IsFresh, IsDualFeasible};
 ghost use Rattle.pami_theory.specs.Start.{starting_basis};
 ghost use Rattle.pami_theory.specs.Violation.{width};
 ghost use Rattle.pami_method.specs.Phases.{start_refused};
-ghost use Rattle.pami_form.specs.Model.{model_form};
+ghost use Rattle.pami_model_form.specs.ModelForm.{model_form};
 ghost use Rattle.pami_form.specs.Widths.{first_wide};
 
 /// A model of a file has no boxed variable, so that every width of its form fits.

@@ -1,9 +1,11 @@
 //! The program: what the words of a call ask for, read, solved and written.
 //!
-//! Stands on all other crates. `run_plain` is the whole of it, over a shelf of named files and a sink, and carries the
+//! Stands on all crates of the solver, the words and the files. `run_plain` is the whole of it, over a shelf of named files and a sink, and carries the
 //! theorem from bytes to bytes; `main` hands it the files and the output of the machine.
 #![tactic(auto)]
 
+mod answer;
+mod certificate;
 pub mod file_laws;
 mod print;
 mod run;
@@ -11,8 +13,10 @@ mod solve;
 mod status;
 #[cfg(test)]
 mod tests;
-mod values;
-mod words;
+
+ghost use Rattle.std.specs.Prelude.{◌≡◌};
+ghost use Rattle.std.specs.Process.{exit_status};
+ghost use Rattle.pami_cli.specs.Status.{code_of};
 
 use pami_edge::{RealShelf, RealSink, Word};
 pub use run::run_plain;
@@ -30,15 +34,21 @@ fn given_words<R: Env + AllocGlobal>(rt: &R) -> io::Result<Vec<Word>> {
     Ok(words)
 }
 
+/// The process ends with the number of its status.
+fn ended(status: Status) -> ExitCode
+    ensures { exit_status result ≡ code_of status }
+{
+    ExitCode::from(status.code())
+}
+
 fn main(rt: HostRuntime) -> ExitCode {
     let words = match given_words(&rt) {
         Ok(words) => words,
         // A word that is no text stands in no table, so these are bad words, as no words at all are.
         Err(fault) if fault.kind() == io::ErrorKind::InvalidData => Vec::new(rt.alloc()),
-        Err(_) => return ExitCode::from(Status::OutOfMemory.code()),
+        Err(_) => return ended(Status::OutOfMemory),
     };
     let mut shelf = RealShelf::new(&rt);
     let mut out = RealSink::new(rt.stdout());
-    let status = run_plain(rt.alloc(), words.as_slice(), &mut shelf, &mut out);
-    ExitCode::from(status.code())
+    ended(run_plain(rt.alloc(), words.as_slice(), &mut shelf, &mut out))
 }

@@ -15,7 +15,8 @@ use Rattle.pami_algebra.specs.Operations.{is_zero, of_int}
 use Rattle.pami_algebra.specs.Size.{size}
 use Rattle.pami_algebra.proofs.Tests.{is_zero_iff}
 use Rattle.pami_frac.specs.declared.list.Entry.{Entry}
-use Rattle.pami_script.specs.Dense.{at, dense, get, Rising}
+use Rattle.pami_linear.specs.Lists.{get}
+use Rattle.pami_script.specs.Dense.{at, dense, Rising}
 use Rattle.pami_script.proofs.Skipped.{at_here, at_other, at_below, get_dense}
 use Rattle.pami_theory.specs.Weights.{weight_at, greater, lesser, clamped, weight_after, weights_after}
 use Rattle.pami_devex.specs.Weights.{IsWeight, AreWeights, weight_beside, weight_at_pivot}

@@ -7,6 +7,7 @@ ghost use Rattle.pami_theory.specs.Weights.{clamped as the_clamped, weights_afte
 ghost use Rattle.pami_devex.specs.Weights.{IsWeight, AreWeights, weight_beside, weight_at_pivot};
 
 use pami_frac::{Entry, Frac};
+use pami_vec::entry_at;
 
 /// The greatest weight.
 const MOST: u64 = 1 << 40;
@@ -40,18 +41,6 @@ fn reweigh_pivot(weight: u64, alpha_p: &Frac) -> u64
     (weight >> (2 * clamped(alpha_p.size()))).max(1)
 }
 
-/// The value at a place.
-fn value_at(entries: &[Entry], place: u32) -> Frac
-    ensures { result ≡ at entries.now place }
-{
-    for entry in entries {
-        if entry.place == place {
-            return entry.value;
-        }
-    }
-    Frac::zero()
-}
-
 /// Takes the weights, by place, behind the pivot at `place` with the column `alpha`: what the basis inverse makes of the
 /// entering column, its entries by rising place. (Forrest and Goldfarb 1992.)
 pub fn reweigh(weights: &mut [u64], alpha: &[Entry], place: u32)
@@ -60,7 +49,7 @@ pub fn reweigh(weights: &mut [u64], alpha: &[Entry], place: u32)
     ensures value { weights.new ≡ weights_after (dense (length weights.old) alpha.now) place weights.old }
     ensures range { AreWeights weights.old → AreWeights weights.new }
 {
-    let alpha_p = value_at(alpha, place);
+    let alpha_p = entry_at(alpha, place);
     let weight_p = weights[place as usize];
     for entry in alpha {
         let i = entry.place as usize;

@@ -1,5 +1,5 @@
 -- One line off the front.
-use Rattle.std.proofs.Common.{◌+◌, ◌-◌, ◌≡◌, ◌≢◌, ◌<◌, ◌⊎◌, inl, inr, ℕ, zero, suc, false, length, get_or, take, drop, ◌++◌, append_assoc, List, [], ◌∷◌, refl, ap, sym, subst, ◌∙◌, arith}
+use Rattle.std.proofs.Common.{◌+◌, ◌-◌, ◌≡◌, ◌≢◌, ◌<◌, ◌⊎◌, inl, inr, ℕ, zero, suc, false, length, get_or, take, drop, List, [], ◌∷◌, refl, ap, sym, subst, ◌∙◌, arith}
 use Rattle.std.proofs.lemmas.Bool.{ne_eqb}
 use Rattle.std.proofs.Math.Bool.{and-false}
 use Rattle.std.proofs.Math.Seq.{take-length}
@@ -63,9 +63,3 @@ cut_line xs (suc i) some inside none found return =
     let f : suc i + 1 ≡ suc (suc i) = omega arith in
     let at : get_or xs i 0 ≡ 13 = rw e at return in
     rw (e, f) (return_line xs i inside none found at)
-
--- the lines before, one more, and those of what is left
-pub lines_on : (done : List (List ℕ)) (whole rest line after : List ℕ) → done ++ lines_of rest ≡ lines_of whole
-    → lines_of rest ≡ line ∷ lines_of after → (done ++ line ∷ []) ++ lines_of after ≡ lines_of whole
-lines_on done whole rest line after so_far first =
-    append_assoc done (line ∷ []) (lines_of after) ∙ ap (λ (z : List (List ℕ)). done ++ z) (sym first) ∙ so_far

@@ -2,3 +2,4 @@ pub mod Outside
 pub mod Lines
 pub mod Memory
 pub mod Plan
+pub mod Calls

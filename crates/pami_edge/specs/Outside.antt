@@ -1,5 +1,5 @@
 -- What a shelf and a sink tell of their bytes, and their counts.
-use Rattle.std.specs.Prelude.{ℕ, ◌≡◌, ◌<◌, ◌+◌, ◌^◌, ◌-◌, ◌⊎◌, List, [], ◌++◌, Option, Some, None, length, take, min}
+use Rattle.std.specs.Prelude.{ℕ, ◌≡◌, ◌<◌, ◌+◌, ◌^◌, ◌-◌, ◌⊎◌, List, [], ◌∷◌, ◌++◌, Option, Some, None, length, take, min, refl}
 
 -- the last value of a count
 abbrev pub last_count : ℕ
@@ -12,6 +12,15 @@ Rose before after = (before < after) ⊎ (after ≡ last_count)
 -- a count with n more, which stands still at its last value
 abbrev pub counted : ℕ → ℕ → ℕ
 counted count n = min (count + n) last_count
+
+-- what stands since the last `open`: before the first one, what an unopened shelf has
+abbrev pub since_open : {A : Type 0} → List (List ℕ) → A → A → A
+since_open [] unopened now = unopened
+since_open (name ∷ names) unopened now = now
+
+pub since_open_none : {A : Type 0} (asked : List (List ℕ)) (unopened now : A) → asked ≡ [] → since_open asked unopened now ≡ unopened
+since_open_none [] unopened now none = refl
+since_open_none (name ∷ names) unopened now none = absurd (cc)
 
 -- the bytes under each name; None where there is no such name
 abbrev pub Files : Type 0
@@ -60,3 +69,9 @@ Grows (Some xs) new piece = new ≡ Some (xs ++ piece)
 -- some front of the piece was appended
 abbrev pub GrowsInPart : Option (List ℕ) → Option (List ℕ) → List ℕ → Type 0
 GrowsInPart old new piece = (n : ℕ) × Grows old new (take n piece)
+
+-- what a shelf of the machine's own files is seen as, which tells none of their bytes
+pub record OpenedFiles : Type 0 where
+  pub asked : List (List ℕ)
+  pub taken : ℕ
+  pub faults : ℕ

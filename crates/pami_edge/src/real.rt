@@ -1,12 +1,14 @@
 //! The shelf and the sink of the outside itself. They tell no bytes.
 
 ghost use Rattle.std.specs.Prelude.{◌≡◌, [], None};
+ghost use Rattle.pami_edge.specs.Outside.{since_open, since_open_none};
 
 use crate::asked::Asked;
 use crate::outside::{Failed, Shelf, Sink};
 use crate::word::Word;
 use std::fs;
 use std::io::{Read, Write};
+use std::marker::Model;
 use std::rt::Files;
 
 /// The files of a runtime, each under its path. An error of the runtime is a fault; a folder may be opened, and the
@@ -18,7 +20,17 @@ pub struct RealShelf<'a, R: Files> {
     file: Option<R::File>,
     taken: u64,
     faults: u64,
-    ghost unopened: { asked ≡ [] → (file ≡ None) × (taken ≡ 0) },
+}
+
+impl<'a, R: Files> Model for RealShelf<'a, R> {
+    ghost use Rattle.std.specs.Prelude.{◌≡◌, [], None};
+    ghost use Rattle.pami_edge.specs.Outside.{OpenedFiles};
+
+    ghost Value = { OpenedFiles };
+
+    ghost view = { λ s. record { asked = s.asked; taken = s.taken; faults = s.faults } };
+
+    ghost invariant = { λ s. s.asked ≡ [] → (s.file ≡ None) × (s.taken ≡ 0) };
 }
 
 impl<'a, R: Files> RealShelf<'a, R> {
@@ -46,11 +58,11 @@ impl<'a, R: Files> Shelf for RealShelf<'a, R> {
 
     ghost faults = { λ s. s.faults };
 
-    ghost taken = { λ s. s.taken };
+    ghost taken = { λ s. since_open s.asked 0 s.taken };
 
     ghost tells = { λ _ told. told };
 
-    ghost unopened = { λ s none. (tt, (s.unopened none).1) };
+    ghost unopened = { λ s none. (tt, since_open_none s.asked 0 s.taken none) };
 
     fn open(&mut self, name: Word) -> Result<(), Failed> {
         self.taken = 0;
@@ -88,6 +100,14 @@ pub struct RealSink<W> {
     faults: u64,
 }
 
+impl<W> Model for RealSink<W> {
+    ghost use Rattle.std.specs.Prelude.{ℕ};
+
+    ghost Value = { ℕ };
+
+    ghost view = { λ s. s.faults };
+}
+
 impl<W: Write> RealSink<W> {
     /// The sink that writes to this output.
     pub fn new(out: W) -> RealSink<W>
@@ -100,7 +120,7 @@ impl<W: Write> RealSink<W> {
 impl<W: Write> Sink for RealSink<W> {
     ghost told = { λ _. None };
 
-    ghost faults = { λ s. s.faults };
+    ghost faults = { λ faults. faults };
 
     fn put(&mut self, piece: &[u8]) -> Result<usize, Failed> {
         match self.out.write(piece) {

@@ -1,14 +1,13 @@
 //! The backward solve: the factor of each step, then up with them.
 
 ghost use Rattle.std.specs.Prelude.{◌≡◌, ◌<◌, ◌≤◌, ◌^◌, length, [], All, IfOk};
-ghost use Rattle.pami_script.specs.Dense.{get};
-ghost use Rattle.pami_script.specs.Follows.{FollowsScript};
+ghost use Rattle.pami_linear.specs.Lists.{get};
+ghost use Rattle.pami_frac.specs.Answers.{FollowsBy};
 ghost use Rattle.pami_factoring.specs.Solve.{sub_all, sub_kept, factor_at, factors, by_row, combined, backward_script};
 ghost use Rattle.pami_factoring.specs.Steps.{IsReady};
-ghost use Rattle.pami_lu.specs.Follow.{FollowsAs};
 ghost use Rattle.pami_factor.specs.Units.{unit_list};
 
-use crate::dense::{flags, sparse, unit, zeros};
+use crate::dense::{flags, unit, zeros};
 use crate::sums::subtract_all;
 use pami_factoring::{Kept, subtract_if};
 use pami_frac::{Fault, Frac, OutOfMemory, Refused};
@@ -63,7 +62,7 @@ pub(crate) fn find_factors(
     right: &[Frac],
 ) -> Result<Vec<Frac>, Fault<Refused>>
     requires { All (IsReady (length right.now)) steps.now }
-    ensures script { FollowsAs (λ v. v.items) (factors steps.now steps.now [] right.now) result }
+    ensures script { FollowsBy (λ v. v.items) (factors steps.now steps.now [] right.now) result }
     ensures size { IfOk result (λ v. length v.items ≡ length steps.now) }
 {
     let mut out = Vec::new(alloc);
@@ -115,7 +114,7 @@ pub(crate) fn combine(
     by_row: Vec<Frac>,
 ) -> Result<Vec<Frac>, Fault<Refused>>
     requires { All (IsReady (length by_row.items)) steps.now }
-    ensures script { FollowsAs (λ v. v.items) (combined (length by_row.items) steps.now by_row.items) result }
+    ensures script { FollowsBy (λ v. v.items) (combined (length by_row.items) steps.now by_row.items) result }
     ensures size { IfOk result (λ v. length v.items ≡ length by_row.items) }
 {
     let mut active = match flags(alloc, by_row.len(), false) {
@@ -147,26 +146,11 @@ pub(crate) fn solve_row(
     requires few { length steps.now < 2 ^ 32 }
     requires low { place < length steps.now }
     requires ready { All (IsReady (length steps.now)) steps.now }
-    ensures { FollowsScript (backward_script steps.now [] (unit_list (length steps.now) place)) result }
+    ensures { FollowsBy (λ v. v) (backward_script steps.now [] (unit_list (length steps.now) place)) result }
 {
-    let right = match unit(alloc, steps.len(), place) {
-        Ok(right) => right,
-        Err(_) => return Err(Fault::OutOfMemory),
-    };
-    let factors = match find_factors(alloc, steps, &right) {
-        Ok(factors) => factors,
-        Err(fault) => return Err(fault),
-    };
-    let rows = match factors_by_row(alloc, steps, &factors) {
-        Ok(rows) => rows,
-        Err(_) => return Err(Fault::OutOfMemory),
-    };
-    let solution = match combine(alloc, steps, rows) {
-        Ok(solution) => solution,
-        Err(fault) => return Err(fault),
-    };
-    match sparse(alloc, &solution) {
-        Ok(vector) => Ok(vector),
-        Err(_) => Err(Fault::OutOfMemory),
-    }
+    let right = unit(alloc, steps.len(), place)?;
+    let factors = find_factors(alloc, steps, &right)?;
+    let rows = factors_by_row(alloc, steps, &factors)?;
+    let solution = combine(alloc, steps, rows)?;
+    Ok(SpVec::from_dense(alloc, &solution)?)
 }

@@ -1,12 +1,11 @@
 //! The forward solve: down with the right side, up with the solution.
 
 ghost use Rattle.std.specs.Prelude.{◌≡◌, ◌<◌, ◌^◌, length, replicate, true, [], All, IfOk};
-ghost use Rattle.pami_script.specs.Follows.{FollowsScript};
+ghost use Rattle.pami_frac.specs.Answers.{FollowsBy};
 ghost use Rattle.pami_factoring.specs.Solve.{lowered, value_at, raised, forward_script};
 ghost use Rattle.pami_factoring.specs.Steps.{IsReady};
-ghost use Rattle.pami_lu.specs.Follow.{FollowsAs};
 
-use crate::dense::{dense, flags, sparse, zeros};
+use crate::dense::{flags, zeros};
 use crate::sums::{subtract_all, subtract_multiples};
 use pami_factoring::Kept;
 use pami_frac::{Fault, Frac, Refused};
@@ -20,7 +19,7 @@ pub(crate) fn go_down(
     right: Vec<Frac>,
 ) -> Result<Vec<Frac>, Fault<Refused>>
     requires { All (IsReady (length right.items)) steps.now }
-    ensures script { FollowsAs (λ v. v.items) (lowered (replicate (length right.items) true) steps.now right.items) result }
+    ensures script { FollowsBy (λ v. v.items) (lowered (replicate (length right.items) true) steps.now right.items) result }
     ensures size { IfOk result (λ v. length v.items ≡ length right.items) }
 {
     let mut active = match flags(alloc, right.len(), true) {
@@ -60,7 +59,7 @@ pub(crate) fn go_up(
     right: &[Frac],
 ) -> Result<Vec<Frac>, Fault<Refused>>
     requires { All (IsReady (length right.now)) steps.now }
-    ensures script { FollowsAs (λ v. v.items) (raised (length right.now) steps.now right.now) result }
+    ensures script { FollowsBy (λ v. v.items) (raised (length right.now) steps.now right.now) result }
     ensures size { IfOk result (λ v. length v.items ≡ length right.now) }
 {
     let mut places = match flags(alloc, right.len(), false) {
@@ -94,22 +93,10 @@ pub(crate) fn solve_column(
 ) -> Result<SpVec, Fault<Refused>>
     requires few { length column.now < 2 ^ 32 }
     requires ready { All (IsReady (length column.now)) steps.now }
-    ensures { FollowsScript (forward_script steps.now [] column.now) result }
+    ensures { FollowsBy (λ v. v) (forward_script steps.now [] column.now) result }
 {
-    let right = match dense(alloc, column) {
-        Ok(right) => right,
-        Err(_) => return Err(Fault::OutOfMemory),
-    };
-    let lower = match go_down(alloc, steps, right) {
-        Ok(lower) => lower,
-        Err(fault) => return Err(fault),
-    };
-    let solution = match go_up(alloc, steps, &lower) {
-        Ok(solution) => solution,
-        Err(fault) => return Err(fault),
-    };
-    match sparse(alloc, &solution) {
-        Ok(vector) => Ok(vector),
-        Err(_) => Err(Fault::OutOfMemory),
-    }
+    let right = column.to_dense(alloc)?;
+    let lower = go_down(alloc, steps, right)?;
+    let solution = go_up(alloc, steps, &lower)?;
+    Ok(SpVec::from_dense(alloc, &solution)?)
 }

@@ -2,7 +2,7 @@
 
 ghost use Rattle.std.specs.Prelude.{◌≡◌, length, Ok, Err};
 ghost use Rattle.pami_factoring.specs.Solve.{sub_all, sub_multiples};
-ghost use Rattle.pami_factor.specs.Follow.{Lowers};
+ghost use Rattle.pami_frac.specs.Answers.{BecomesBy};
 
 use pami_factoring::subtract_if;
 use pami_frac::{Frac, Refused};
@@ -37,7 +37,7 @@ pub(crate) fn subtract_multiples(
 ) -> Result<(), Refused>
     requires flags { length active.now ≡ length xs.old.items }
     requires same { length us.now ≡ length xs.old.items }
-    ensures script { Lowers (sub_multiples active.now xs.old.items us.now v) result xs.new.items }
+    ensures script { BecomesBy (sub_multiples active.now xs.old.items us.now v) xs.new.items result }
     ensures size { length xs.new.items ≡ length xs.old.items }
 {
     if v.is_zero() {

@@ -7,17 +7,15 @@ use Rattle.pami_algebra.specs.Fraction.{Fraction}
 use Rattle.pami_algebra.specs.Operations.{◌-ᶠ◌, ◌*ᶠ◌, ◌/ᶠ◌}
 use Rattle.pami_frac.specs.Arithmetic.{mul_outcome, sub_outcome, div_outcome}
 use Rattle.pami_frac.specs.declared.arithmetic.Refused.{Refused}
-use Rattle.pami_script.specs.Dense.{get}
+use Rattle.pami_linear.specs.Lists.{get}
 use Rattle.pami_script.specs.Script.{then}
 use Rattle.pami_frac.proofs.Outcomes.{sub_value, mul_value, div_value}
-use Rattle.pami_linear.specs.Pivoting.{Pivot}
+use Rattle.pami_linear.specs.Pivoting.{Pivot, pivot, at_pivot, allowed_in, cost_in, IsFound, IsInside}
 use Rattle.pami_factoring.specs.declared.kept.Kept.{Kept}
 use Rattle.pami_factoring.specs.declared.kept.LuFault.{LuFault}
 use Rattle.pami_factoring.specs.declared.kept.LuFault.TheVariants.{Singular, Refused as Unfit}
 use Rattle.pami_linear.specs.Active.{but, count, first_from}
-use Rattle.pami_linear.specs.Pivoting.{pivot, at_pivot, allowed_in, cost_in}
 use Rattle.pami_linear.specs.Elimination.{reduced}
-use Rattle.pami_linear.specs.Pivoting.{IsFound, IsInside}
 use Rattle.pami_linear.specs.Chains.{IsPivot, Agree, Chain, ended, goes_on, Unsolved}
 use Rattle.pami_factoring.specs.Factor.{sub_if, sub_row, reduce_row, reduce_rows, flag, entry, step_at, then_more, then_step, elimination_from, elimination_script}
 use Rattle.pami_factoring.specs.Steps.{steps_from, IsSquare}

@@ -7,12 +7,11 @@ use Rattle.pami_algebra.specs.Fraction.{Fraction}
 use Rattle.pami_frac.specs.Arithmetic.{div_outcome}
 use Rattle.pami_frac.specs.Signs.{is_zero}
 use Rattle.pami_frac.specs.declared.arithmetic.Refused.{Refused}
-use Rattle.pami_script.specs.Dense.{get}
+use Rattle.pami_linear.specs.Lists.{get}
 use Rattle.pami_script.specs.Script.{then}
-use Rattle.pami_linear.specs.Pivoting.{Pivot}
+use Rattle.pami_linear.specs.Pivoting.{Pivot, pivot}
 use Rattle.pami_factoring.specs.declared.kept.Kept.{Kept}
 use Rattle.pami_linear.specs.Active.{but}
-use Rattle.pami_linear.specs.Pivoting.{pivot}
 use Rattle.pami_factoring.specs.Factor.{sub_if, sub_row, reduce_row, reduce_rows, flag, entry, step_at}
 use Rattle.pami_linear.proofs.Pivots.{pivot_some}
 use Rattle.pami_frac.proofs.Outcomes.{not_zero_by_test}

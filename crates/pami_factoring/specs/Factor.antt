@@ -8,7 +8,7 @@ use Rattle.pami_linear.specs.Active.{first_from}
 use Rattle.pami_linear.specs.Pivoting.{pivot, at_pivot}
 use Rattle.pami_frac.specs.Arithmetic.{div_outcome}
 use Rattle.pami_frac.specs.declared.arithmetic.Refused.{Refused}
-use Rattle.pami_script.specs.Dense.{get}
+use Rattle.pami_linear.specs.Lists.{get}
 use Rattle.pami_script.specs.Script.{then, sub_product}
 use Rattle.pami_factoring.specs.declared.kept.Kept.{Kept}
 use Rattle.pami_factoring.specs.declared.kept.LuFault.{LuFault}

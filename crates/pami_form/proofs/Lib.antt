@@ -1,4 +1,3 @@
-pub mod Rises
 pub mod Wide
 pub mod Lists
 pub mod Formed

@@ -8,10 +8,10 @@ ghost use Rattle.pami_theory.specs.Form.{zero_f};
 ghost use Rattle.pami_model.specs.declared.list.Column.{Column};
 ghost use Rattle.pami_model.specs.Rules.{AreEntries};
 ghost use Rattle.pami_model.specs.Contents.{contents};
-ghost use Rattle.pami_state.specs.Columns.{limits_by, form_by};
+ghost use Rattle.pami_state.specs.Columns.{form_by};
 ghost use Rattle.pami_form.specs.Form.{KeepsForm, widths_of};
-ghost use Rattle.pami_form.specs.Lists.{row_vector, all_bounds, all_columns, all_costs};
-ghost use Rattle.pami_form.specs.Model.{minimised, model_form};
+ghost use Rattle.pami_form.specs.Lists.{row_vector, all_bounds as the_all_bounds, all_columns as the_all_columns, all_costs as the_all_costs};
+ghost use Rattle.pami_model_form.specs.ModelForm.{minimised as the_minimised, model_form};
 ghost use Rattle.pami_form.specs.Widths.{first_wide, width_script};
 
 use crate::form::{Form, WideBox};
@@ -45,7 +45,7 @@ fn row_column(alloc: Global, rows: u32, row: u32) -> Result<SpVec, OutOfMemory>
 /// `OutOfMemory` alone.
 fn all_columns(alloc: Global, rows: u32, columns: &[Column]) -> Result<Columns, OutOfMemory>
     requires { All (λ (c : Column). AreEntries rows c.entries) columns.now }
-    ensures { IfOk result (λ cs. cs ≡ all_columns rows columns.now) }
+    ensures { IfOk result (λ cs. cs ≡ the_all_columns rows columns.now) }
 {
     let mut vectors = Vec::new(alloc);
     for column in columns {
@@ -73,7 +73,7 @@ fn copied(bounds: &Bounds) -> Bounds
 ///
 /// `OutOfMemory` alone.
 fn all_bounds(alloc: Global, rows: &[Row], columns: &[Column]) -> Result<BoundsList, OutOfMemory>
-    ensures { IfOk result (λ bs. bs ≡ all_bounds rows.now columns.now) }
+    ensures { IfOk result (λ bs. bs ≡ the_all_bounds rows.now columns.now) }
 {
     let mut bounds = Vec::new(alloc);
     for column in columns {
@@ -87,7 +87,7 @@ fn all_bounds(alloc: Global, rows: &[Row], columns: &[Column]) -> Result<BoundsL
 
 /// The cost that is to be made small.
 fn minimised(sense: Sense, cost: Frac) -> Frac
-    ensures { result ≡ minimised sense cost }
+    ensures { result ≡ the_minimised sense cost }
 {
     match sense {
         Sense::Min => cost,
@@ -106,7 +106,7 @@ fn all_costs(
     rows: &[Row],
     columns: &[Column],
 ) -> Result<FracList, OutOfMemory>
-    ensures { IfOk result (λ cs. cs ≡ all_costs sense rows.now columns.now) }
+    ensures { IfOk result (λ cs. cs ≡ the_all_costs sense rows.now columns.now) }
 {
     let mut costs = Vec::new(alloc);
     for column in columns {
@@ -124,7 +124,7 @@ fn all_costs(
 ///
 /// `Refused` where the difference doesn't fit.
 fn width(bounds: &Bounds) -> Result<Option<Frac>, Refused>
-    ensures { result ≡ width_script (limits_by bounds.now) }
+    ensures { result ≡ width_script bounds.now }
 {
     match (bounds.low, bounds.high) {
         (Some(low), Some(high)) => {
@@ -149,7 +149,7 @@ fn width(bounds: &Bounds) -> Result<Option<Frac>, Refused>
 fn all_widths(alloc: Global, bounds: &[Bounds]) -> Result<WidthList, Fault<WideBox>>
     requires { length bounds.now < 2 ^ 32 }
     ensures widths { IfOk result (λ ws. ws ≡ widths_of bounds.now) }
-    ensures follows { Follows (first_wide (map limits_by bounds.now)) result }
+    ensures follows { Follows (first_wide bounds.now) result }
 {
     let mut widths = Vec::new(alloc);
     for (v, limits) in bounds.iter().enumerate() {

@@ -11,9 +11,8 @@ use Rattle.pami_algebra.specs.Gcd.{gcd_is, divides_other}
 use Rattle.pami_algebra.specs.Lowest.{is_lowest_in, same_ratio, mul_pos}
 use Rattle.pami_algebra.specs.Reduced.{over, over_ratio, reduced_gcd}
 use Rattle.pami_algebra.specs.Operations.{◌*ᶠ◌}
-use Rattle.pami_frac.specs.Range.{fits, small}
+use Rattle.pami_frac.specs.Range.{fits, small, signed_of, kept}
 use Rattle.pami_frac.specs.Stored.{IsStored}
-use Rattle.pami_frac.specs.Range.{signed_of, kept}
 use Rattle.pami_frac.specs.Arithmetic.{mul_fits}
 use Rattle.pami_frac.specs.Checked.{small_nat, product_if}
 use Rattle.pami_frac.proofs.Signed.{signed_abs, signed_mul, fits_over, cond_true, cond_false, too_big}

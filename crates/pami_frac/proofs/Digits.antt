@@ -1,12 +1,9 @@
 -- The count of a number's binary digits is the only one that is enough and not too many.
-use Rattle.std.proofs.Common.{◌≡◌, ℕ, zero, suc, ◌*◌, ◌/◌, ◌%◌, ◌<◌, ◌≤◌, ◌^◌, refl, sym, ap, ◌∙◌, subst, arith, ⊎_elim, Bool, true, false, cond}
+use Rattle.std.proofs.Common.{◌≡◌, ℕ, zero, suc, ◌*◌, ◌/◌, ◌%◌, ◌<◌, ◌≤◌, ◌^◌, refl, sym, ap, ◌∙◌, subst, arith, ⊎_elim, true, false, cond}
 use native.Mathlib.Nat.{div-add-mod, mod-lt}
 use Rattle.std.proofs.lemmas.Bool.{cases_lt}
 use lib.IntN.{ℤ, pos, negsuc, ◌-ℤ◌, nat_abs}
 use Rattle.pami_algebra.specs.Fraction.{Fraction}
-use Rattle.pami_algebra.specs.Operations as exact
-use Rattle.pami_algebra.proofs.Tests.{is_zero_iff}
-use Rattle.pami_frac.proofs.Signs.{zero_means}
 use Rattle.pami_frac.specs.Signs.{is_zero}
 use Rattle.pami_algebra.specs.Size.{halvings, bits, NeedsDigits, size}
 
@@ -61,21 +58,12 @@ only_digits n b c x y = ⊎_elim (λ (h : b < c). absurd (not_more n b c x y h))
 pub bits_by_log : (n l : ℕ) → 0 < n → 2 ^ l ≤ n → n < 2 * 2 ^ l → bits n ≡ suc l
 bits_by_log n l p x y = only_digits n (bits n) (suc l) (bits_need n p) (record { enough = omega arith; all = omega arith })
 
--- the two tests for 0 are the same
-same_test : (b c : Bool) → (b ≡ true → c ≡ true) → (c ≡ true → b ≡ true) → b ≡ c
-same_test true c f g = sym (f refl)
-same_test false true f g = g refl
-same_test false false f g = refl
-
-pub zero_same : (p : Fraction) → exact.is_zero p ≡ is_zero p
-zero_same p = same_test (exact.is_zero p) (is_zero p) (λ h. (zero_means p).1 ((is_zero_iff p).0 h)) (λ h. (is_zero_iff p).1 ((zero_means p).0 h))
-
 pub size_zero : (p : Fraction) → is_zero p ≡ true → negsuc 126 ≡ size p
 unfolding size
-size_zero p e = sym (ap (λ t. cond t (negsuc 126) (pos (bits (nat_abs p.num)) -ℤ pos (bits p.den))) (zero_same p ∙ e))
+size_zero p e = sym (ap (λ t. cond t (negsuc 126) (pos (bits (nat_abs p.num)) -ℤ pos (bits p.den))) e)
 
 pub size_other : (p : Fraction) (a b n m : ℕ) (z : ℤ) → is_zero p ≡ false → n ≡ nat_abs p.num → m ≡ p.den → a ≡ bits n → b ≡ bits m → z ≡ pos a -ℤ pos b → z ≡ size p
 unfolding size
 size_other p a b n m z e f g h i j =
     j ∙ ap (λ a. pos a -ℤ pos b) (h ∙ ap bits f) ∙ ap (λ b. pos (bits (nat_abs p.num)) -ℤ pos b) (i ∙ ap bits g)
-    ∙ sym (ap (λ t. cond t (negsuc 126) (pos (bits (nat_abs p.num)) -ℤ pos (bits p.den))) (zero_same p ∙ e))
+    ∙ sym (ap (λ t. cond t (negsuc 126) (pos (bits (nat_abs p.num)) -ℤ pos (bits p.den))) e)

@@ -7,8 +7,9 @@ use Rattle.pami_algebra.specs.Reduced.{over}
 use Rattle.pami_algebra.specs.Operations.{inv_f, over_int}
 use Rattle.pami_algebra.proofs.Parts.{num_den_coprime}
 use Rattle.std.proofs.lemmas.Bool.{true≢false}
+use Rattle.std.specs.Ordering.{int_eq}
 use Rattle.pami_frac.specs.Range.{signed_of}
-use Rattle.pami_frac.specs.Signs.{is_zero, is_nil, is_minus, is_negative}
+use Rattle.pami_frac.specs.Signs.{is_zero, is_minus, is_negative}
 use Rattle.pami_frac.specs.Stored.{IsStored}
 use Rattle.pami_frac.proofs.Signed.{signed_abs}
 use Rattle.pami_frac.proofs.Crosswise.{coprime_swap}
@@ -21,7 +22,7 @@ inverse_over : (p : Fraction) → over (signed_of (is_negative p) p.den) (nat_ab
 unfolding inv_f
 inverse_over p = sign_is p.num p.den
 
-not_nil : (n : ℤ) → is_nil n ≡ false → 0 < nat_abs n
+not_nil : (n : ℤ) → int_eq n (pos 0) ≡ false → 0 < nat_abs n
 not_nil (pos zero) e = absurd (true≢false e)
 not_nil (pos (suc n)) e = omega arith
 not_nil (negsuc n) e = omega arith

@@ -1,6 +1,7 @@
 pub mod Euclid
 pub mod Signed
 pub mod Negated
+pub mod Wholes
 pub mod Signs
 pub mod Order
 pub mod Texts
@@ -16,3 +17,4 @@ pub mod Inverses
 pub mod Digits
 pub mod Outcomes
 pub mod Fitting
+pub mod Answers

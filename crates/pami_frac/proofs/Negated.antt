@@ -1,5 +1,5 @@
 -- A stored fraction with its sign turned.
-use Rattle.std.proofs.Common.{◌≡◌, ℕ, ◌<◌, ◌^◌, zero, suc, refl, sym, ap, ◌∙◌, subst, arith}
+use Rattle.std.proofs.Common.{◌≡◌, ℕ, ◌<◌, ◌^◌, zero, suc, refl, sym, ap, ◌∙◌, subst, arith, to_z, of_z}
 use lib.IntN.{ℤ, pos, negsuc, neg_ℤ, nat_abs, ◌-ℤ◌}
 use lib.Signed.{mag}
 use lib.Dec.{T}
@@ -8,7 +8,6 @@ use Rattle.pami_algebra.specs.Reduced.{over, over_num, over_den}
 use Rattle.pami_algebra.specs.Operations.{neg_f}
 use Rattle.pami_frac.specs.Stored.{IsStored}
 use Rattle.std.proofs.lemmas.Int.{ints, to_z-of_z}
-use Rattle.std.proofs.Common.{to_z, of_z}
 use mir.Syntax.{w128}
 
 pub neg_over : (n : ℤ) (d : ℕ) → T (is_lowest n d) → over (neg_ℤ n) d ≡ neg_f (over n d)

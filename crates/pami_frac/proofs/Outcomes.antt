@@ -1,7 +1,7 @@
 -- What an operation that fits answers, and that it fits the other way round.
-use Rattle.std.proofs.Common.{◌≡◌, ℕ, zero, suc, ◌*◌, ◌/◌, refl, sym, ap, ◌∙◌, subst, arith, Bool, true, false, cond, Result, Ok, Err}
+use Rattle.std.proofs.Common.{◌≡◌, ℕ, ◌*◌, ◌/◌, refl, sym, ap, ◌∙◌, subst, arith, Bool, true, false, cond, Result, Ok, Err}
 use native.Mathlib.Nat.{div-mul_cancel}
-use lib.IntN.{ℤ, pos, negsuc, neg_ℤ, ◌+ℤ◌, ◌*ℤ◌, nat_abs, +ℤ_comm}
+use lib.IntN.{ℤ, pos, neg_ℤ, ◌+ℤ◌, ◌*ℤ◌, nat_abs, +ℤ_comm}
 use Rattle.std.proofs.lemmas.Int.{ints}
 use Rattle.std.proofs.lemmas.Bool.{true≢false}
 use Rattle.std.proofs.lemmas.Nat.Gcd.{same_from_IsGcd, IsGcd-swap}
@@ -10,22 +10,22 @@ use Rattle.pami_algebra.specs.Gcd.{gcd_is}
 use Rattle.pami_algebra.specs.Integers.{neg_mul_ℤ}
 use Rattle.pami_algebra.specs.Operations.{◌+ᶠ◌, ◌*ᶠ◌, neg_f, inv_f, of_int}
 use Rattle.pami_algebra.proofs.Laws.{add_comm_f, mul_comm_f, add_nil_f}
-use Rattle.pami_algebra.proofs.Field.{nil_add_f, mul_nil_f, nil_mul_f, neg_add_f, neg_nil_f}
+use Rattle.pami_algebra.proofs.Field.{nil_add_f, mul_nil_f, nil_mul_f, neg_add_f, neg_nil_f, neg_not_zero_f}
 use Rattle.pami_algebra.proofs.Parts.{abs_neg_ℤ, num_neg_f, den_neg_f}
 use Rattle.pami_frac.specs.Range.{small, fits}
-use Rattle.pami_frac.specs.Signs.{is_zero, is_nil}
+use Rattle.pami_frac.specs.Signs.{is_zero}
 use Rattle.pami_frac.specs.Arithmetic.{all_small, add_fits, mul_fits, answer, add_outcome, mul_outcome, sub_outcome, div_outcome, refused_as}
 use Rattle.pami_frac.specs.declared.arithmetic.Op.{Op}
 use Rattle.pami_frac.specs.declared.arithmetic.Op.TheVariants.{Add, Sub, Mul, Div}
 use Rattle.pami_frac.specs.declared.arithmetic.Refused.{Refused}
-use Rattle.pami_frac.proofs.Signs.{zero_means}
+use Rattle.pami_algebra.proofs.Tests.{is_zero_iff, not_zero_iff}
 
 -- ---- 0 is found by its test
 pub zero_by_test : (p : Fraction) → is_zero p ≡ true → p ≡ of_int (pos 0)
-zero_by_test p e = (zero_means p).0 e
+zero_by_test p e = (is_zero_iff p).0 e
 
 pub zero_is_zero : is_zero (of_int (pos 0)) ≡ true
-zero_is_zero = (zero_means (of_int (pos 0))).1 refl
+zero_is_zero = (is_zero_iff (of_int (pos 0))).1 refl
 
 pub not_zero_by_test : (p : Fraction) → ¬ (p ≡ of_int (pos 0)) → is_zero p ≡ false
 not_zero_by_test p h = go (is_zero p) (zero_by_test p)
@@ -187,13 +187,8 @@ mul_swap p q s e = by_tests (λ s. mul_outcome q p ≡ Ok s) (is_zero p) (is_zer
     (λ h k m. mul_by_test q p k h (ap fits (mul_comm_f q p) ∙ m) ∙ ap Ok (mul_comm_f q p)) e
 
 -- ---- both signs turned
-neg_nil : (n : ℤ) → is_nil n ≡ false → is_nil (neg_ℤ n) ≡ false
-neg_nil (pos zero) e = absurd (true≢false e)
-neg_nil (pos (suc n)) e = refl
-neg_nil (negsuc n) e = refl
-
 pub neg_not_zero : (p : Fraction) → is_zero p ≡ false → is_zero (neg_f p) ≡ false
-neg_not_zero p e = ap is_nil (num_neg_f p) ∙ neg_nil p.num e
+neg_not_zero p e = (not_zero_iff (neg_f p)).1 (neg_not_zero_f p ((not_zero_iff p).0 e))
 
 neg_add_ℤ : (x y : ℤ) → neg_ℤ x +ℤ neg_ℤ y ≡ neg_ℤ (x +ℤ y)
 neg_add_ℤ x y = omega (arith, ints)

@@ -1,13 +1,12 @@
--- What the tests of a sign say of the fraction.
-use Rattle.std.proofs.Common.{◌≡◌, ◌↔◌, ℕ, zero, suc, true, refl, sym, ap, ◌∙◌, subst, arith}
+-- What the test of a sign says of the fraction.
+use Rattle.std.proofs.Common.{◌≡◌, ◌↔◌, ℕ, true, refl, sym, ap, ◌∙◌, subst, arith}
 use lib.IntN.{ℤ, pos, negsuc, ◌*ℤ◌}
 use lib.Signed.{◌<ℤ◌}
 use Rattle.std.proofs.lemmas.Bool.{true≢false}
 use Rattle.std.proofs.lemmas.Int.{ints}
 use Rattle.pami_algebra.specs.Fraction.{Fraction, gcd}
-use Rattle.pami_algebra.specs.Lowest.{same_ratio, itself}
 use Rattle.pami_algebra.specs.Operations.{of_int, ◌<ᶠ◌}
-use Rattle.pami_frac.specs.Signs.{is_zero, is_nil, is_negative, is_minus}
+use Rattle.pami_frac.specs.Signs.{is_negative, is_minus}
 
 zero_num : (of_int (pos 0)).num ≡ pos 0
 unfolding of_int gcd
@@ -16,22 +15,6 @@ zero_num = refl
 zero_den : (of_int (pos 0)).den ≡ 1
 unfolding of_int gcd
 zero_den = refl
-
-from_nil : (n : ℤ) → is_nil n ≡ true → n ≡ pos 0
-from_nil (pos zero) e = refl
-from_nil (pos (suc n)) e = absurd (true≢false (sym e))
-from_nil (negsuc n) e = absurd (true≢false (sym e))
-
-nothing_below : (d e : ℕ) → pos 0 *ℤ pos d ≡ pos 0 *ℤ pos e
-nothing_below d e = omega (arith, ints)
-
-zero_in : (p : Fraction) → p.num ≡ pos 0 → p ≡ of_int (pos 0)
-zero_in p e =
-    same_ratio p (of_int (pos 0)) _ _ _ _ (itself p) (itself (of_int (pos 0)))
-    (ap (λ z. z *ℤ pos (of_int (pos 0)).den) e ∙ nothing_below (of_int (pos 0)).den p.den ∙ sym (ap (λ z. z *ℤ pos p.den) zero_num))
-
-pub zero_means : (p : Fraction) → is_zero p ≡ true ↔ (p ≡ of_int (pos 0))
-zero_means p = (λ e. zero_in p (from_nil p.num e), λ e. ap is_nil (ap (λ (q : Fraction). q.num) e ∙ zero_num))
 
 minus_in : (n : ℤ) → is_minus n ≡ true → n <ℤ pos 0
 minus_in (pos n) e = absurd (true≢false (sym e))

@@ -1,5 +1,6 @@
 //! What the calls of this crate refuse, and the answer for want of memory that all crates share.
 
+use crate::arithmetic::Refused;
 use std::alloc::{AllocError, AllocFailed};
 use thiserror::Error;
 
@@ -56,6 +57,17 @@ impl<E: Drop> From<OutOfMemory> for Fault<E> {
 
     fn from(_e: OutOfMemory) -> Fault<E> {
         Fault::OutOfMemory
+    }
+}
+
+impl From<Refused> for Fault<Refused> {
+    ghost use Rattle.std.specs.Prelude.{◌≡◌};
+    ghost use Rattle.pami_frac.specs.declared.fault.Fault.{Fault};
+
+    ghost from_gives = { λ refused e. e ≡ Fault.Named refused };
+
+    fn from(refused: Refused) -> Fault<Refused> {
+        Fault::Named(refused)
     }
 }
 

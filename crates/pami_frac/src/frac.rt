@@ -76,6 +76,13 @@ impl Frac {
         }
     }
 
+    /// A whole number.
+    pub fn whole(number: i64) -> Frac
+        ensures { result ≡ of_int number }
+    {
+        Frac::from_lowest(i128::from(number), 1)
+    }
+
     /// `numerator / denominator` in lowest terms with a denominator above 0.
     ///
     /// # Errors

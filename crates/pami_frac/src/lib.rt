@@ -2,7 +2,8 @@
 //!
 //! Stands on `pami_algebra`, whose unbounded fractions are what a contract sees of a `Frac`. The layers above may
 //! rely on exact values and on each refusal coming exactly where the answer doesn't fit, and they share from here
-//! the plain types of bounds, entries and lists, and `Fault`, the answer of every call that takes memory.
+//! the plain types of bounds, entries and lists, `Fault`, the answer of every call that takes memory, and the forms in
+//! which contracts say such answers (`specs/Answers.antt`).
 #![tactic(auto)]
 
 mod arithmetic;
@@ -26,4 +27,4 @@ pub use arithmetic::{Op, Refused};
 pub use decimal::read_decimal;
 pub use fault::{DecimalFault, Fault, NewFault, OutOfMemory};
 pub use frac::Frac;
-pub use list::{Bounds, Entry, FracList};
+pub use list::{Bounds, Entry, FracList, ListOf};

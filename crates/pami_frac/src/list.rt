@@ -19,44 +19,45 @@ pub struct Bounds {
     pub high: Option<Frac>,
 }
 
-/// A list of fractions, which a contract sees as a list.
+/// A list, which a contract sees as the list of its members.
 #[derive(Debug, Drop)]
-pub struct FracList {
-    items: Vec<Frac>,
+pub struct ListOf<T> {
+    items: Vec<T>,
 }
 
-impl Model for FracList {
+impl<T> Model for ListOf<T> {
     ghost use Rattle.std.specs.Prelude.{List};
     ghost use Rattle.std.specs.Coded.{coded_list};
-    ghost use Rattle.pami_algebra.specs.Fraction.{Fraction};
-    ghost use Rattle.pami_frac.specs.Stored.{fraction_code};
 
-    ghost Value = { List Fraction };
+    ghost Value = { List T };
 
-    ghost coded = { coded_list fraction_code };
+    ghost coded = { coded_list T.code };
 
     ghost view = { λ l. l.items.items };
 }
 
-impl FracList {
+impl<T> ListOf<T> {
     /// Takes the list from a `Vec`.
-    pub fn from_vec(items: Vec<Frac>) -> FracList
+    pub fn from_vec(items: Vec<T>) -> ListOf<T>
         ensures { result ≡ items.items }
     {
-        FracList { items }
+        ListOf { items }
     }
 
     /// Gives the `Vec` back.
-    pub fn into_vec(self) -> Vec<Frac>
+    pub fn into_vec(self) -> Vec<T>
         ensures { result.items ≡ self }
     {
         self.items
     }
 
     /// Lends the list.
-    pub fn as_slice(&self) -> &[Frac]
+    pub fn as_slice(&self) -> &[T]
         ensures { result.now ≡ self.now }
     {
         self.items.as_slice()
     }
 }
+
+/// A list of fractions.
+pub type FracList = ListOf<Frac>;

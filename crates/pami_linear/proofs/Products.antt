@@ -1,5 +1,6 @@
 -- Solves through the pivots of a product form.
-use Rattle.std.proofs.Common.{◌≡◌, ℕ, ◌<◌, List, [], ◌∷◌, refl, ap, ◌∙◌, true}
+use Rattle.std.proofs.Common.{◌≡◌, ℕ, zero, suc, ◌<◌, List, [], ◌∷◌, refl, ap, ◌∙◌, arith, true}
+use Rattle.std.specs.Prelude.{All}
 use lib.IntN.{pos}
 use Rattle.pami_algebra.specs.Fraction.{Fraction}
 use Rattle.pami_algebra.specs.Ring.{var, ◌⊕◌, ⊖}
@@ -11,7 +12,7 @@ use Rattle.pami_linear.specs.Systems.{Solves, Combines, IsRegular, replaced}
 use Rattle.pami_linear.specs.Active.{part, minus_to, but}
 use Rattle.pami_linear.specs.Elimination.{EliminationStep, forward, backward}
 use Rattle.pami_linear.specs.Chains.{Eliminates}
-use Rattle.pami_linear.specs.Products.{ProductPivot, IsAfter, unchanged, pivoted, transformed, transformed_by, gathered, gathered_by}
+use Rattle.pami_linear.specs.Products.{ProductPivot, IsProductPivot, combination, columns_with, columns_after, transformed, transformed_by, gathered, gathered_by}
 use Rattle.pami_linear.proofs.Parts.{part_but, part_same, minus_is, set_same, set_other, but_ne}
 use Rattle.pami_linear.proofs.Systems.{solutions_meet}
 use Rattle.pami_linear.proofs.Pivoted.{replaced_combines}
@@ -41,23 +42,44 @@ gathered_combines m e b new y d l n f g =
     (λ k h o. g.at k h ∙ set_other p k (minus_to m (but p (λ k. true)) (λ k. d k *ᶠ e.column k) (d p) /ᶠ e.column p) d o)
 
 -- ---- all pivots
-pub regular_after : (m : ℕ) (es : List ProductPivot) (b c : ℕ → ℕ → Fraction) → IsAfter m es b c → IsRegular m b → IsRegular m c
-regular_after m _ _ _ (unchanged b) g = g
-regular_after m _ _ _ (pivoted e es b c new l n f rest) g = regular_after m es (replaced b e.place new) c rest (regular_after_pivot m e.place b new e.column l f n g)
+-- B alpha has the solution alpha
+pub combination_solves : (m : ℕ) (b : ℕ → ℕ → Fraction) (alpha : ℕ → Fraction) → Solves m b alpha (combination m b alpha)
+combination_solves m b alpha = record { at = λ i l. refl }
 
-pub solves_after : (m : ℕ) (es : List ProductPivot) (b c : ℕ → ℕ → Fraction) (x r : ℕ → Fraction) → IsAfter m es b c → Solves m b x r → Solves m c (transformed_by es x) r
-solves_after m _ _ _ x r (unchanged b) s = s
-solves_after m _ _ _ x r (pivoted e es b c new l n f rest) s =
-    solves_after m es (replaced b e.place new) c (transformed e x) r rest (solves_to_quotient m e.place b new e.column x r l f s n)
+first_pivot : (m : ℕ) (e : ProductPivot) (es : List ProductPivot) → All (IsProductPivot m) (e ∷ es) → IsProductPivot m e
+first_pivot m e es a = a zero e (omega arith)
 
-pub combines_after : (m : ℕ) (es : List ProductPivot) (b c : ℕ → ℕ → Fraction) (y d : ℕ → Fraction) → IsAfter m es b c → Combines m b y (gathered_by m es d) → Combines m c y d
-combines_after m _ _ _ y d (unchanged b) s = s
-combines_after m _ _ _ y d (pivoted e es b c new l n f rest) s =
-    combines_after m es (replaced b e.place new) c y d rest (gathered_combines m e b new y (gathered_by m es d) l n f s)
+later_pivots : (m : ℕ) (e : ProductPivot) (es : List ProductPivot) → All (IsProductPivot m) (e ∷ es) → All (IsProductPivot m) es
+later_pivots m e es a = λ i d l. a (suc i) d (omega arith)
+
+pub regular_after : (m : ℕ) (es : List ProductPivot) (b : ℕ → ℕ → Fraction) → All (IsProductPivot m) es → IsRegular m b → IsRegular m (columns_after m b es)
+regular_after m [] b a g = g
+regular_after m (e ∷ es) b a g =
+    let k = first_pivot m e es a in
+    regular_after m es (columns_with m b e) (later_pivots m e es a)
+    (regular_after_pivot m e.place b (combination m b e.column) e.column k.place_low (combination_solves m b e.column) k.nonzero g)
+
+pub solves_after : (m : ℕ) (es : List ProductPivot) (b : ℕ → ℕ → Fraction) (x r : ℕ → Fraction) → All (IsProductPivot m) es → Solves m b x r
+    → Solves m (columns_after m b es) (transformed_by es x) r
+solves_after m [] b x r a s = s
+solves_after m (e ∷ es) b x r a s =
+    let k = first_pivot m e es a in
+    solves_after m es (columns_with m b e) (transformed e x) r (later_pivots m e es a)
+    (solves_to_quotient m e.place b (combination m b e.column) e.column x r k.place_low (combination_solves m b e.column) s k.nonzero)
+
+pub combines_after : (m : ℕ) (es : List ProductPivot) (b : ℕ → ℕ → Fraction) (y d : ℕ → Fraction) → All (IsProductPivot m) es → Combines m b y (gathered_by m es d)
+    → Combines m (columns_after m b es) y d
+combines_after m [] b y d a s = s
+combines_after m (e ∷ es) b y d a s =
+    let k = first_pivot m e es a in
+    combines_after m es (columns_with m b e) y d (later_pivots m e es a)
+    (gathered_combines m e b (combination m b e.column) y (gathered_by m es d) k.place_low k.nonzero (combination_solves m b e.column) s)
 
 -- ---- on top of an elimination
-pub forward_after : (m : ℕ) (ss : List EliminationStep) (es : List ProductPivot) (b c : ℕ → ℕ → Fraction) (r : ℕ → Fraction) → Eliminates m b ss → IsAfter m es b c → Solves m c (transformed_by es (forward m ss r)) r
-forward_after m ss es b c r q a = solves_after m es b c (forward m ss r) r a (forward_is m b ss r q)
+pub forward_after : (m : ℕ) (ss : List EliminationStep) (es : List ProductPivot) (b : ℕ → ℕ → Fraction) (r : ℕ → Fraction) → Eliminates m b ss → All (IsProductPivot m) es
+    → Solves m (columns_after m b es) (transformed_by es (forward m ss r)) r
+forward_after m ss es b r q a = solves_after m es b (forward m ss r) r a (forward_is m b ss r q)
 
-pub backward_after : (m : ℕ) (ss : List EliminationStep) (es : List ProductPivot) (b c : ℕ → ℕ → Fraction) (d : ℕ → Fraction) → Eliminates m b ss → IsAfter m es b c → Combines m c (backward m ss (gathered_by m es d)) d
-backward_after m ss es b c d q a = combines_after m es b c (backward m ss (gathered_by m es d)) d a (backward_is m b ss (gathered_by m es d) q)
+pub backward_after : (m : ℕ) (ss : List EliminationStep) (es : List ProductPivot) (b : ℕ → ℕ → Fraction) (d : ℕ → Fraction) → Eliminates m b ss → All (IsProductPivot m) es
+    → Combines m (columns_after m b es) (backward m ss (gathered_by m es d)) d
+backward_after m ss es b d q a = combines_after m es b (backward m ss (gathered_by m es d)) d a (backward_is m b ss (gathered_by m es d) q)

@@ -3,7 +3,8 @@ use Rattle.std.specs.Prelude.{◌≡◌, ℕ, ◌<◌, true, List, [], ◌∷◌
 use lib.IntN.{pos}
 use Rattle.pami_algebra.specs.Fraction.{Fraction}
 use Rattle.pami_algebra.specs.Operations.{◌*ᶠ◌, ◌/ᶠ◌, of_int}
-use Rattle.pami_linear.specs.Systems.{Solves, replaced, stepped}
+use Rattle.pami_linear.specs.Sums.{sum_to}
+use Rattle.pami_linear.specs.Systems.{replaced, stepped}
 use Rattle.pami_linear.specs.Active.{minus_to, but, set_at}
 
 -- one pivot: the column at a place is replaced, and by the columns before it the new one is `column`, by place
@@ -11,11 +12,23 @@ pub record ProductPivot : Type 0 where
   pub place : ℕ
   pub column : ℕ → Fraction
 
--- the columns c are those of b after the pivots, the first one first; none of them is 0 at its place
-pub data IsAfter (m : ℕ) : List ProductPivot → (ℕ → ℕ → Fraction) → (ℕ → ℕ → Fraction) → Type 0 where
-  unchanged : (b : ℕ → ℕ → Fraction) → IsAfter m [] b b
-  pivoted : (e : ProductPivot) (es : List ProductPivot) (b c : ℕ → ℕ → Fraction) (new : ℕ → Fraction) → e.place < m → ¬ (e.column e.place ≡ of_int (pos 0)) →
-      Solves m b e.column new → IsAfter m es (replaced b e.place new) c → IsAfter m (e ∷ es) b c
+-- a pivot of a basis with m places: its own member of the column isn't 0
+pub record IsProductPivot (m : ℕ) (e : ProductPivot) : Type 0 where
+  pub place_low : e.place < m
+  pub nonzero : ¬ (e.column e.place ≡ of_int (pos 0))
+
+-- the column whose solution by the columns b is alpha: B alpha, by row
+abbrev pub combination : ℕ → (ℕ → ℕ → Fraction) → (ℕ → Fraction) → ℕ → Fraction
+combination m b alpha i = sum_to m (λ k. b k i *ᶠ alpha k)
+
+-- the columns after one pivot: the one at its place is the one whose solution it has
+abbrev pub columns_with : ℕ → (ℕ → ℕ → Fraction) → ProductPivot → ℕ → ℕ → Fraction
+columns_with m b e = replaced b e.place (combination m b e.column)
+
+-- after all pivots, the first one first
+abbrev pub columns_after : ℕ → (ℕ → ℕ → Fraction) → List ProductPivot → ℕ → ℕ → Fraction
+columns_after m b [] = b
+columns_after m b (e ∷ es) = columns_after m (columns_with m b e) es
 
 -- a solution, by place, through one pivot: the quotient at its place, and the others less its multiple
 abbrev pub transformed : ProductPivot → (ℕ → Fraction) → ℕ → Fraction

@@ -1,18 +1,8 @@
 //! What happens in a run, as it is told.
 
-ghost use Rattle.std.specs.Prelude.{◌≡◌};
-
-use crate::place::Place;
-use pami_frac::Frac;
+use pami_frac::{Frac, ListOf};
+use pami_method::{Mode, Place};
 use pami_vec::{PlaceList, Side, Stand};
-use std::marker::Model;
-
-/// How a major is tried: on a whole batch, or on one row with a new elimination.
-#[derive(Clone, Copy, Debug, PartialEq, Eq)]
-pub enum Mode {
-    Full,
-    Single,
-}
 
 /// One thing that a major did.
 #[derive(Clone, Copy, Debug, PartialEq, Eq)]
@@ -45,19 +35,7 @@ pub enum Move {
 }
 
 /// The drops, flips and pivots of a major, in order.
-#[derive(Debug, Drop)]
-pub struct Record {
-    items: Vec<Move>,
-}
-
-impl Model for Record {
-    ghost use Rattle.std.specs.Prelude.{List};
-    ghost use Rattle.pami_log.specs.declared.event.Move.{Move};
-
-    ghost Value = { List Move };
-
-    ghost view = { λ l. l.items.items };
-}
+pub type Record = ListOf<Move>;
 
 /// One event of a run.
 #[derive(Debug, Drop)]
@@ -82,62 +60,4 @@ pub enum Event {
 }
 
 /// Events in order.
-#[derive(Debug, Drop)]
-pub struct EventList {
-    items: Vec<Event>,
-}
-
-impl Model for EventList {
-    ghost use Rattle.std.specs.Prelude.{List};
-    ghost use Rattle.pami_log.specs.declared.event.Event.{Event};
-
-    ghost Value = { List Event };
-
-    ghost view = { λ l. l.items.items };
-}
-
-impl Record {
-    /// Takes the list from a `Vec`.
-    pub fn from_vec(items: Vec<Move>) -> Record
-        ensures { result ≡ items.items }
-    {
-        Record { items }
-    }
-
-    /// Gives the `Vec` back.
-    pub fn into_vec(self) -> Vec<Move>
-        ensures { result.items ≡ self }
-    {
-        self.items
-    }
-
-    /// Lends the list.
-    pub fn as_slice(&self) -> &[Move]
-        ensures { result.now ≡ self.now }
-    {
-        self.items.as_slice()
-    }
-}
-
-impl EventList {
-    /// Takes the list from a `Vec`.
-    pub fn from_vec(items: Vec<Event>) -> EventList
-        ensures { result ≡ items.items }
-    {
-        EventList { items }
-    }
-
-    /// Gives the `Vec` back.
-    pub fn into_vec(self) -> Vec<Event>
-        ensures { result.items ≡ self }
-    {
-        self.items
-    }
-
-    /// Lends the list.
-    pub fn as_slice(&self) -> &[Event]
-        ensures { result.now ≡ self.now }
-    {
-        self.items.as_slice()
-    }
-}
+pub type EventList = ListOf<Event>;

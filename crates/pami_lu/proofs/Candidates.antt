@@ -4,7 +4,7 @@ use Rattle.pami_algebra.specs.Fraction.{Fraction}
 use Rattle.pami_algebra.specs.Operations.{is_zero}
 use Rattle.pami_linear.specs.Active.{one_if, count}
 use Rattle.pami_linear.specs.Pivoting.{Pivot, better, in_column, row_count}
-use Rattle.pami_script.specs.Dense.{get}
+use Rattle.pami_linear.specs.Lists.{get}
 use Rattle.pami_factoring.specs.Factor.{flag, entry, row_at}
 use Rattle.pami_lu.specs.declared.search.Found.{Found}
 use Rattle.pami_lu.specs.Search.{nonzeros, row_counts, Cached, allowed}

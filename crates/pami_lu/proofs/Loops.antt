@@ -19,7 +19,8 @@ use Rattle.pami_factoring.proofs.Readies.{steps_ready}
 use Rattle.pami_factoring.proofs.Shapes.{Shape, Pivoted, at_pivoted}
 use Rattle.pami_lu.proofs.Rows.{reduce_without}
 use Rattle.pami_lu.specs.declared.search.Found.{Found}
-use Rattle.pami_lu.specs.Follow.{FollowsAs, FollowsElimination, FollowsPivot, widened}
+use Rattle.pami_frac.specs.Answers.{FollowsBy}
+use Rattle.pami_lu.specs.Follow.{FollowsPivot, widened}
 
 -- steps before others
 abbrev pub before : List Kept → Result (List Kept) LuFault → Result (List Kept) LuFault
@@ -49,7 +50,7 @@ pivoted_at m ts cs rows f s e = at_pivoted m ts cs rows (record { row = f.row; p
 
 -- no pivot
 pub none_left : (start : Result (List Kept) LuFault) (m k : ℕ) (ts cs : List Bool) (rows : List (List Fraction)) (ss : List Kept) (d : Fault LuFault) → k < m →
-    start ≡ before ss (elimination_from (m - k) ts cs rows) → FollowsPivot ts cs rows (Err d) → FollowsElimination start (Err d)
+    start ≡ before ss (elimination_from (m - k) ts cs rows) → FollowsPivot ts cs rows (Err d) → FollowsBy (λ ks. ks) start (Err d)
 none_left start m k ts cs rows ss (Named e) l s f =
     s ∙ one_further (m - k) (m - (k + 1)) ts cs rows ss None (omega arith) f.0 ∙ ap Err (sym f.1)
 none_left start m k ts cs rows ss OutOfMemory l s f = tt
@@ -68,7 +69,7 @@ next_left start m k ts cs rows next ss more q step l e f g h =
 -- a refused one
 pub refused_left : {B : Type 0} (g : B → Kept × List (List Fraction)) (start : Result (List Kept) LuFault) (m k : ℕ) (ts cs : List Bool) (rows : List (List Fraction)) (ss : List Kept) (q : Found) (d : Fault Refused) → k < m →
     start ≡ before ss (elimination_from (m - k) ts cs rows) → FollowsPivot ts cs rows (Ok q) →
-    FollowsAs g (step_at (set ts q.row false) (set cs q.place false) rows q.row q.place) (Err d) → FollowsElimination start (Err (widened d))
+    FollowsBy g (step_at (set ts q.row false) (set cs q.place false) rows q.row q.place) (Err d) → FollowsBy (λ ks. ks) start (Err (widened d))
 refused_left h start m k ts cs rows ss q (Named r) l s f g =
     s ∙ one_further (m - k) (m - (k + 1)) ts cs rows ss (Some (record { row = q.row; place = q.place })) (omega arith) f
     ∙ ap (λ u. before ss (then_step u (λ (n : List (List Fraction)). elimination_from (m - (k + 1)) (set ts q.row false) (set cs q.place false) n))) g
@@ -108,7 +109,7 @@ pub step_taken : (ts cs : List Bool) (rows : List (List Fraction)) (i p : ℕ) (
 step_taken ts cs rows i p other kept slice out ls e f g h = step_with ts cs rows i p other kept slice e f g ∙ ap (λ z. then z (step_from i p kept)) h
 
 pub step_failed : {A B : Type 0} (f : A → List (List Fraction) × List Fraction) (g : B → Kept × List (List Fraction)) (ts cs : List Bool) (rows : List (List Fraction)) (i p : ℕ) (other kept slice : List Fraction) (d : Fault Refused) → flag ts i ≡ false → kept ≡ row_at rows i → slice ≡ kept →
-    FollowsAs f (reduce_rows ts cs p (set rows i other) slice) (Err d) → FollowsAs g (step_at ts cs rows i p) (Err d)
+    FollowsBy f (reduce_rows ts cs p (set rows i other) slice) (Err d) → FollowsBy g (step_at ts cs rows i p) (Err d)
 step_failed f g ts cs rows i p other kept slice (Named r) e h k u = step_with ts cs rows i p other kept slice e h k ∙ ap (λ z. then z (step_from i p kept)) u
 step_failed f g ts cs rows i p other kept slice OutOfMemory e h k u = tt
 

@@ -6,7 +6,7 @@ use Rattle.pami_algebra.specs.Fraction.{Fraction}
 use Rattle.pami_algebra.specs.Operations.{of_int}
 use Rattle.pami_frac.specs.Arithmetic.{div_outcome}
 use Rattle.pami_frac.specs.declared.arithmetic.Refused.{Refused}
-use Rattle.pami_script.specs.Dense.{get}
+use Rattle.pami_linear.specs.Lists.{get}
 use Rattle.pami_script.specs.Script.{then}
 use Rattle.pami_script.proofs.Scripts.{then_go}
 use Rattle.pami_script.proofs.Loops.{get_is}

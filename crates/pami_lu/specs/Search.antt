@@ -4,7 +4,7 @@ use Rattle.pami_algebra.specs.Fraction.{Fraction}
 use Rattle.pami_algebra.specs.Operations.{is_zero}
 use Rattle.pami_linear.specs.Active.{count}
 use Rattle.pami_linear.specs.Pivoting.{Pivot, allowed_in, cost_in}
-use Rattle.pami_script.specs.Dense.{get}
+use Rattle.pami_linear.specs.Lists.{get}
 use Rattle.pami_factoring.specs.Factor.{flag, entry}
 use Rattle.pami_lu.specs.declared.search.Found.{Found}
 

@@ -3,7 +3,8 @@
 ghost use Rattle.std.specs.Prelude.{◌≡◌, ◌<◌, ◌+◌, ◌^◌, ℕ, length, slice_index_or, [], All, IfOk};
 ghost use Rattle.pami_linear.specs.Systems.{IsRegular};
 ghost use Rattle.pami_factoring.specs.Factor.{elimination_script, matrix_of, basis_columns};
-ghost use Rattle.pami_lu.specs.Follow.{FollowsElimination, IfSingular};
+ghost use Rattle.pami_frac.specs.Answers.{FollowsBy};
+ghost use Rattle.pami_lu.specs.Follow.{IfSingular};
 
 use crate::elimination::eliminate_rows;
 use crate::lu::Lu;
@@ -31,16 +32,13 @@ pub fn eliminate<L>(
     requires few { length head.now < 2 ^ 32 }
     requires heights { (j : ℕ) → j < length columns.now → length (slice_index_or columns.now j []) ≡ length head.now }
     requires known { All (λ j. j < length columns.now) head.now }
-    ensures script { FollowsElimination (elimination_script (matrix_of columns.now head.now)) result }
+    ensures script { FollowsBy (λ ks. ks) (elimination_script (matrix_of columns.now head.now)) result }
     ensures count { IfOk result (λ lu. length lu ≡ length head.now) }
     ensures regular { IfOk result (λ _. IsRegular (length head.now) (basis_columns columns.now head.now)) }
     ensures singular { IfSingular result (¬ (IsRegular (length head.now) (basis_columns columns.now head.now))) }
     ensures counted { steps.new.count ≡ steps.old.count + 1 }
 {
     steps.tick();
-    let rows = match basis_rows(alloc, columns, head) {
-        Ok(rows) => rows,
-        Err(_) => return Err(Fault::OutOfMemory),
-    };
+    let rows = basis_rows(alloc, columns, head)?;
     eliminate_rows(alloc, rows)
 }

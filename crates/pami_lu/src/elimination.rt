@@ -4,7 +4,8 @@ ghost use Rattle.std.specs.Prelude.{◌≡◌, ◌<◌, ◌^◌, ℕ, length, tr
 ghost use Rattle.pami_frac.specs.Signs.{is_zero};
 ghost use Rattle.pami_factoring.specs.Factor.{flag, entry, row_at, step_at, elimination_script};
 ghost use Rattle.pami_factoring.specs.Steps.{IsSquare};
-ghost use Rattle.pami_lu.specs.Follow.{FollowsAs, FollowsElimination, FollowsPivot, widened};
+ghost use Rattle.pami_frac.specs.Answers.{FollowsBy};
+ghost use Rattle.pami_lu.specs.Follow.{FollowsPivot, widened};
 
 use crate::flags::{all_active, first_active};
 use crate::lu::Lu;
@@ -38,22 +39,20 @@ fn take_step(
     requires place_low { place < length places.now }
     requires kept { length (row_at rows.items row) ≡ length places.now }
     requires nonzero { is_zero (entry rows.items row place) ≡ false }
-    ensures { FollowsAs (λ t. (t.step, t.rows.items)) (step_at active.now places.now rows.items row place) result }
+    ensures { FollowsBy (λ t. (t.step, t.rows.items)) (step_at active.now places.now rows.items row place) result }
 {
     let mut rows = rows;
     let kept = mem::replace(&mut rows[row], FracList::from_vec(Vec::new(alloc)));
-    match reduce_rows(alloc, active, places, place, rows, kept.as_slice()) {
-        Ok(reduced) => Ok(Taken {
-            step: Kept {
-                row,
-                place,
-                kept,
-                multipliers: reduced.multipliers,
-            },
-            rows: reduced.rows,
-        }),
-        Err(fault) => Err(fault),
-    }
+    let reduced = reduce_rows(alloc, active, places, place, rows, kept.as_slice())?;
+    Ok(Taken {
+        step: Kept {
+            row,
+            place,
+            kept,
+            multipliers: reduced.multipliers,
+        },
+        rows: reduced.rows,
+    })
 }
 
 /// The fault of an elimination for the fault of one of its steps.
@@ -79,10 +78,7 @@ fn next_pivot(
     requires same { (h : ℕ) → h < length rows.now → flag active.now h ≡ true → length (row_at rows.now h) ≡ length rows.now }
     ensures { FollowsPivot active.now places.now rows.now result }
 {
-    let counts = match count_rows(alloc, active, places, rows) {
-        Ok(counts) => counts,
-        Err(_) => return Err(Fault::OutOfMemory),
-    };
+    let counts = count_rows(alloc, active, places, rows)?;
     match find_pivot(active, places, rows, &counts) {
         Some(pivot) => Ok(pivot),
         None => Err(Fault::Named(LuFault::Singular {
@@ -102,24 +98,15 @@ fn push_step(steps: &mut Vec<Kept>, step: Kept) -> bool
 pub(crate) fn eliminate_rows(alloc: Global, matrix: Vec<FracList>) -> Result<Lu, Fault<LuFault>>
     requires few { length matrix.items < 2 ^ 32 }
     requires square { IsSquare matrix.items }
-    ensures { FollowsElimination (elimination_script matrix.items) result }
+    ensures { FollowsBy (λ ks. ks) (elimination_script matrix.items) result }
 {
     let m = matrix.len();
-    let mut active = match all_active(alloc, m) {
-        Ok(flags) => flags,
-        Err(_) => return Err(Fault::OutOfMemory),
-    };
-    let mut places = match all_active(alloc, m) {
-        Ok(flags) => flags,
-        Err(_) => return Err(Fault::OutOfMemory),
-    };
+    let mut active = all_active(alloc, m)?;
+    let mut places = all_active(alloc, m)?;
     let mut rows = matrix;
     let mut steps = Vec::new(alloc);
     for k in 0..m {
-        let pivot = match next_pivot(alloc, &active, &places, &rows) {
-            Ok(pivot) => pivot,
-            Err(fault) => return Err(fault),
-        };
+        let pivot = next_pivot(alloc, &active, &places, &rows)?;
         active[pivot.row] = false;
         places[pivot.place] = false;
         let taken = match take_step(alloc, &active, &places, rows, pivot.row, pivot.place) {

@@ -3,10 +3,9 @@
 ghost use Rattle.std.specs.Prelude.{◌≡◌, ◌<◌, ℕ, length, true, false, [], List};
 ghost use Rattle.pami_algebra.specs.Fraction.{Fraction};
 ghost use Rattle.pami_frac.specs.Signs.{is_zero};
-ghost use Rattle.pami_script.specs.Dense.{get};
-ghost use Rattle.pami_script.specs.Follows.{FollowsScript};
+ghost use Rattle.pami_linear.specs.Lists.{get};
+ghost use Rattle.pami_frac.specs.Answers.{FollowsBy};
 ghost use Rattle.pami_factoring.specs.Factor.{flag, row_at, sub_row, reduce_row, reduce_rows};
-ghost use Rattle.pami_lu.specs.Follow.{FollowsAs};
 
 use pami_factoring::subtract_if;
 use pami_frac::{Fault, Frac, FracList, Refused};
@@ -22,17 +21,11 @@ fn reduce_entries(
 ) -> Result<FracList, Fault<Refused>>
     requires same { length places.now ≡ length xs.now }
     requires other { length ys.now ≡ length xs.now }
-    ensures { FollowsScript (sub_row places.now xs.now l ys.now) result }
+    ensures { FollowsBy (λ v. v) (sub_row places.now xs.now l ys.now) result }
 {
     let mut out = Vec::new(alloc);
     for (g, x) in xs.iter().enumerate() {
-        let value = match subtract_if(places[g], *x, l, ys[g]) {
-            Ok(value) => value,
-            Err(refused) => return Err(Fault::Named(refused)),
-        };
-        if out.push(value).is_err() {
-            return Err(Fault::OutOfMemory);
-        }
+        out.push(subtract_if(places[g], *x, l, ys[g])?)?;
     }
     Ok(FracList::from_vec(out))
 }
@@ -58,7 +51,7 @@ fn reduce_row(
     requires other { length kept.now ≡ length places.now }
     requires low { place < length places.now }
     requires nonzero { is_zero (get kept.now place) ≡ false }
-    ensures { FollowsAs (λ r. (r.row, r.multiplier)) (reduce_row active places.now place row kept.now) result }
+    ensures { FollowsBy (λ r. (r.row, r.multiplier)) (reduce_row active places.now place row kept.now) result }
 {
     if !active {
         return Ok(ReducedRow {
@@ -66,17 +59,12 @@ fn reduce_row(
             multiplier: Frac::zero(),
         });
     }
-    let multiplier = match row.as_slice()[place].div(kept[place]) {
-        Ok(multiplier) => multiplier,
-        Err(refused) => return Err(Fault::Named(refused)),
-    };
+    let multiplier = row.as_slice()[place].div(kept[place])?;
     if multiplier.is_zero() {
         return Ok(ReducedRow { row, multiplier });
     }
-    match reduce_entries(alloc, places, row.as_slice(), multiplier, kept) {
-        Ok(row) => Ok(ReducedRow { row, multiplier }),
-        Err(fault) => Err(fault),
-    }
+    let row = reduce_entries(alloc, places, row.as_slice(), multiplier, kept)?;
+    Ok(ReducedRow { row, multiplier })
 }
 
 /// The rows after a step, and their multipliers.
@@ -100,23 +88,16 @@ pub(crate) fn reduce_rows(
     requires other { length kept.now ≡ length places.now }
     requires low { place < length places.now }
     requires nonzero { is_zero (get kept.now place) ≡ false }
-    ensures { FollowsAs (λ r. (r.rows.items, r.multipliers)) (reduce_rows active.now places.now place rows.items kept.now) result }
+    ensures { FollowsBy (λ r. (r.rows.items, r.multipliers)) (reduce_rows active.now places.now place rows.items kept.now) result }
 {
     let mut out = Vec::new(alloc);
     let mut multipliers = Vec::new(alloc);
     let mut h = 0;
     for row in rows {
-        let next = match reduce_row(alloc, active[h], places, place, row, kept) {
-            Ok(next) => next,
-            Err(fault) => return Err(fault),
-        };
+        let next = reduce_row(alloc, active[h], places, place, row, kept)?;
         h += 1;
-        if multipliers.push(next.multiplier).is_err() {
-            return Err(Fault::OutOfMemory);
-        }
-        if out.push(next.row).is_err() {
-            return Err(Fault::OutOfMemory);
-        }
+        multipliers.push(next.multiplier)?;
+        out.push(next.row)?;
     }
     Ok(ReducedRows {
         rows: out,

@@ -2,7 +2,7 @@
 -- it is what is solved behind the step.
 use Rattle.std.proofs.Common.{◌≡◌, ℕ, zero, suc, ◌+◌, ◌/◌, ◌<◌, List, [], ◌∷◌, ◌++◌, map, length, get_or, set, refl, sym, ap, ◌∙◌, subst, arith, Bool, true, false, not, cond, nat_eq, Option, None, Some, Result, Ok, Err}
 use Rattle.std.specs.List.{filter, range_with_len}
-use Rattle.std.proofs.lemmas.List.{length-replicate, get_or-map}
+use Rattle.std.proofs.lemmas.List.{length-replicate, get_or-map, get_or_default}
 use Rattle.pami_algebra.specs.Fraction.{Fraction}
 use Rattle.pami_algebra.specs.Operations.{neg_f}
 use Rattle.pami_algebra.proofs.Field.{neg_nil_f}
@@ -24,47 +24,47 @@ use Rattle.pami_factoring.proofs.Matrices.{matrix_count, matrix_square, matrix_e
 use Rattle.pami_factoring.proofs.Solves.{forward_solution, forward_length}
 use Rattle.pami_factor.proofs.Answered.{no_pivots}
 use Rattle.pami_theory.specs.Form as theory
-use Rattle.pami_theory.specs.Form.{Limits, variables, limits, coefficient, zero_f}
+use Rattle.pami_theory.specs.Form.{variables, limits, coefficient, zero_f}
+use Rattle.pami_theory.specs.declared.words.Stand.{Stand}
+use Rattle.pami_theory.specs.declared.words.Stand.TheVariants.{Basic, Lower, Upper, Zero}
 use Rattle.pami_theory.specs.Basis as basis
 use Rattle.pami_theory.specs.Basis.{Basis, head_at, stand_at, StandsAt, IsBasis, basis_column}
-use Rattle.pami_theory.specs.Fresh.{Fresh, IsFresh, row_at, column_at, value_at_place}
+use Rattle.pami_theory.specs.Fresh.{Fresh, IsFresh, row_at, column_at, value_at_place, standing_value}
 use Rattle.pami_theory.specs.Violation.{passed_bound, value_or_zero, width}
-use Rattle.pami_theory.specs.Ratio.{Leaving, Entering, row_entry, turned_entry}
+use Rattle.pami_theory.specs.Ratio.{Leaving, Entering, row_entry, turned_entry, toward}
 use Rattle.pami_theory.specs.Step.{Step, step_at, TakesStep, basis_after, is_among, change_by, flip_change, flips_change, leaving_at as leaving_by}
 use Rattle.pami_theory.specs.Choice.{InfeasibleRow}
 use Rattle.pami_theory.proofs.Solved.{only_fresh}
 use Rattle.pami_theory.proofs.Steps.{step_exchanges}
-use Rattle.pami_method.specs.Place as method
-use Rattle.pami_method.specs.Place.{RefusedAt, Task, task, refusal}
+use Rattle.pami_method.specs.declared.words.Spot.{Spot}
+use Rattle.pami_method.specs.declared.words.Spot.TheVariants.{Column, Flips, Shift, Step as StepSpot, Values}
+use Rattle.pami_method.specs.Task.{Task, task, refusal}
+use Rattle.pami_method.specs.declared.words.Place.{Place}
 use Rattle.pami_method.specs.Factor.{History, elimination, refusal_by, solve_task}
 use Rattle.pami_method.specs.Scripts.{zeros, is_nonbasic, flips_script, ascending, step_script, shift_script}
 use Rattle.pami_method.specs.Batch.{Minor}
 use Rattle.pami_method.specs.Work.{refused_or, first_refused, slices, step_task, shift_tasks, flips_task, all_flips_script, entering_value, leaving_bound, values_script, column_of as form_column}
-use Rattle.pami_method.specs.Walk.{Options, Mode}
+use Rattle.pami_method.specs.declared.words.Mode.{Mode}
+use Rattle.pami_method.specs.declared.words.Options.{Options}
 use Rattle.pami_method.specs.OneRow.{minor_of}
-use Rattle.pami_chuzr.specs.Violation.{side_of, violation_of}
 use Rattle.pami_chuzr.specs.Choice.{AreOfPlaces}
-use Rattle.pami_vec.specs.declared.list.Stand.{Stand}
-use Rattle.pami_vec.specs.declared.list.Stand.TheVariants as stands
-use Rattle.pami_vec.specs.declared.violation.Side.{Side}
-use Rattle.pami_vec.specs.declared.violation.Side.TheVariants as sides
-use Rattle.pami_log.specs.declared.place.Spot.TheVariants as spots
-use Rattle.pami_log.specs.declared.place.Place.{Place}
-use Rattle.pami_log.specs.Events.{told_spot}
+use Rattle.pami_theory.specs.declared.words.Stand.TheVariants as stands
+use Rattle.pami_theory.specs.declared.words.Side.{Side}
+use Rattle.pami_theory.specs.declared.words.Side.TheVariants as sides
+use Rattle.pami_method.specs.declared.words.Spot.TheVariants as spots
 use Rattle.pami_form.specs.declared.form.Form.{Form}
-use Rattle.pami_state.specs.Columns.{rows_of, column_of, limits_by, form_by, IsForm}
-use Rattle.pami_state.specs.State.{stand_of, basis_of, values_by_place}
+use Rattle.pami_state.specs.Columns.{rows_of, column_of, form_by, IsForm}
+use Rattle.pami_state.specs.State.{basis_of, values_by_place}
 use Rattle.pami_state.specs.declared.state.State.{State}
 use Rattle.pami_state.proofs.Formed.{variables_are, coefficient_is}
 use Rattle.pami_major.specs.declared.change.Change.{Change}
 use Rattle.pami_major.specs.declared.change.Change.TheVariants.{Shifted}
 use Rattle.pami_major.specs.declared.choose.LeavingRow.{LeavingRow}
-use Rattle.pami_major.specs.Changes.{turned, changed}
+use Rattle.pami_major.specs.Changes.{changed}
 use Rattle.pami_major.specs.Exchange.{flip_at, flips_by, length_by, values_by}
 use Rattle.pami_major.specs.Leaving.{bounds_at_places}
 use Rattle.pami_major.specs.Ready.{form_of}
 use Rattle.pami_major.specs.Solving.{Found, Stepped, Behind, at_spot, at_place, then_more, changes_from}
-use Rattle.pami_major.specs.Taken.{limits_read, passed_by, standing_by}
 use Rattle.pami_major.specs.Tried.{AreListsOf, bounds_of, leaving_at, bound_of, stepped_by, solved_by}
 use Rattle.pami_major.proofs.Majors.{front_refused, front_fits, takes_step, fresh_behind, first_of, new_history}
 use Rattle.pami_major.proofs.Sliced.{Fits, sliced_fit, sliced_stop}
@@ -86,16 +86,16 @@ skips (Ok x) t ts e h = ap (λ r. refused_or r t.spot (first_refused ts)) e ∙ 
 skips (Err place) t ts e h = (h.0, ap (λ r. refused_or r t.spot (first_refused ts)) e ∙ h.1, h.2)
 
 -- one script
-one_told : {A B : Type 0} (spot : method.Spot) (r : Result A Refused) (x : Option Refused) (f : A → Result B Place) (ts : List Task) → x ≡ refusal r → ((a : A) → r ≡ Ok a → Tells (f a) ts)
-    → Tells (at_spot (told_spot spot) r f) (record { spot = spot; refusal = x } ∷ ts)
+one_told : {A B : Type 0} (spot : Spot) (r : Result A Refused) (x : Option Refused) (f : A → Result B Place) (ts : List Task) → x ≡ refusal r → ((a : A) → r ≡ Ok a → Tells (f a) ts)
+    → Tells (at_spot spot r f) (record { spot = spot; refusal = x } ∷ ts)
 one_told spot (Ok a) x f ts e h = skips (f a) (record { spot = spot; refusal = x }) ts e (h a refl)
-one_told spot (Err d) x f ts e h = (record { spot = spot; refused = d }, ap (λ r. refused_or r spot (first_refused ts)) e, refl)
+one_told spot (Err d) x f ts e h = (record { task = spot; refused = d }, ap (λ r. refused_or r spot (first_refused ts)) e, refl)
 
 -- one script that is worked out in two parts, of which the second one's value isn't used
-two_told : {A B C : Type 0} (spot : method.Spot) (r : Result A Refused) (q : A → Result B Refused) (x : Option Refused) (f : A → Result C Place) (ts : List Task) → x ≡ refusal (then r q) → ((a : A) → Tells (f a) ts)
-    → Tells (at_spot (told_spot spot) r (λ a. at_spot (told_spot spot) (q a) (λ b. f a))) (record { spot = spot; refusal = x } ∷ ts)
+two_told : {A B C : Type 0} (spot : Spot) (r : Result A Refused) (q : A → Result B Refused) (x : Option Refused) (f : A → Result C Place) (ts : List Task) → x ≡ refusal (then r q) → ((a : A) → Tells (f a) ts)
+    → Tells (at_spot spot r (λ a. at_spot spot (q a) (λ b. f a))) (record { spot = spot; refusal = x } ∷ ts)
 two_told spot (Ok a) q x f ts e h = one_told spot (q a) x (λ b. f a) ts e (λ b k. h a)
-two_told spot (Err d) q x f ts e h = (record { spot = spot; refused = d }, ap (λ r. refused_or r spot (first_refused ts)) e, refl)
+two_told spot (Err d) q x f ts e h = (record { task = spot; refused = d }, ap (λ r. refused_or r spot (first_refused ts)) e, refl)
 
 joined : {A : Type 0} (o : Result A Place) (ts us : List Task) → first_refused ts ≡ None → Tells o us → Tells o (ts ++ us)
 joined (Ok x) ts us e h = front_fits ts us e ∙ h
@@ -176,23 +176,23 @@ not_there : (c : Bool) (x : Fraction) (r : Result Fraction Refused) (d : Refused
 not_there true x r d e = absurd (cc)
 not_there false x r d e = (refl, e)
 
-turned_zero : (side : Side) → turned side zero_f ≡ zero_f
+turned_zero : (side : Side) → toward side zero_f ≡ zero_f
 turned_zero sides.Above = refl
 turned_zero sides.Below = neg_nil_f
 
 -- an entry 0 shifts nothing
-zero_shift : (x tau : Fraction) (side : Side) (a : Fraction) → a ≡ zero_f → sub_product x tau (turned side a) ≡ Ok x
+zero_shift : (x tau : Fraction) (side : Side) (a : Fraction) → a ≡ zero_f → sub_product x tau (toward side a) ≡ Ok x
 zero_shift x tau side a e =
-    ap (λ z. sub_product x tau (turned side z)) e ∙ ap (sub_product x tau) (turned_zero side)
+    ap (λ z. sub_product x tau (toward side z)) e ∙ ap (sub_product x tau) (turned_zero side)
     ∙ then_go (mul_outcome tau zero_f) (λ p. sub_outcome x p) zero_f (mul_zero_fits tau) ∙ sub_zero_fits x
 
 -- the entries by which the costs of all variables are shifted: at nonbasic ones those of the row that leaves, and 0 at basic ones
 record AreTurned (f : theory.Form) (b : Basis) (l : Leaving) (side : Side) (alpha : ℕ → Fraction) : Type 0 where
-  pub nonbasic : (v : ℕ) → v < variables f → is_nonbasic (stand_at b v) ≡ true → turned side (alpha v) ≡ turned_entry f l v
+  pub nonbasic : (v : ℕ) → v < variables f → is_nonbasic (stand_at b v) ≡ true → toward side (alpha v) ≡ turned_entry f l v
   pub basic : (v : ℕ) → v < variables f → is_nonbasic (stand_at b v) ≡ false → alpha v ≡ zero_f
 
 nonbasic_there : (f : theory.Form) (b : Basis) (l : Leaving) (side : Side) (alpha : ℕ → Fraction) (x tau : Fraction) (v : ℕ) (d : Refused) → AreTurned f b l side alpha → v < variables f
-    → sub_product x tau (turned side (alpha v)) ≡ Err d → is_nonbasic (stand_at b v) ≡ true
+    → sub_product x tau (toward side (alpha v)) ≡ Err d → is_nonbasic (stand_at b v) ≡ true
 nonbasic_there f b l side alpha x tau v d h w e = go (is_nonbasic (stand_at b v)) refl
   where
     go : (c : Bool) → is_nonbasic (stand_at b v) ≡ c → c ≡ true
@@ -206,15 +206,15 @@ shift_by : (f : theory.Form) (b : Basis) (l : Leaving) (t : Step) (side : Side) 
     → is_nonbasic (stand_at b v) ≡ true → not (nat_eq v t.entering) ≡ true → changed (Shifted t.tau side t.entering) v (get l.reduced v) (alpha v) ≡ o → shift_of f l t v ≡ o
 shift_by f b l t side alpha v o h w i j e =
     ap (sub_product (get l.reduced v) t.tau) (sym (h.nonbasic v w i))
-    ∙ not_same (nat_eq v t.entering) (get l.reduced v) (sub_product (get l.reduced v) t.tau (turned side (alpha v))) o j e
+    ∙ not_same (nat_eq v t.entering) (get l.reduced v) (sub_product (get l.reduced v) t.tau (toward side (alpha v))) o j e
 
 abbrev shifting : theory.Form → Basis → Leaving → Step → List Task
-shifting f b l t = map (λ slice. task (method.Shift 1 slice) (shift_script f b l t slice)) (slices f)
+shifting f b l t = map (λ slice. task (Shift 1 slice) (shift_script f b l t slice)) (slices f)
 
 shifts_by : (f : theory.Form) (b : Basis) (l : Leaving) (t : Step) (side : Side) (alpha : ℕ → Fraction) (o : Result (List Fraction) Place) → length l.reduced ≡ variables f → AreTurned f b l side alpha
     → ChangesTo (Shifted t.tau side t.entering) 0 l.reduced alpha o → Tells o (shifting f b l t)
 shifts_by f b l t side alpha (Ok ys) n h k =
-    sliced_fit (method.Shift 1) (shift_of f l t) (λ v. is_nonbasic (stand_at b v)) (λ v. not (nat_eq v t.entering)) (variables f) ((variables f + 63) / 64) 0
+    sliced_fit (Shift 1) (shift_of f l t) (λ v. is_nonbasic (stand_at b v)) (λ v. not (nat_eq v t.entering)) (variables f) ((variables f + 63) / 64) 0
     (λ v w i j.
     let z : 0 + v ≡ v = omega arith in
     (get ys v, shift_by f b l t side alpha v (Ok (get ys v)) h w i j (subst (λ m. changed (Shifted t.tau side t.entering) m (get l.reduced v) (alpha m) ≡ Ok (get ys v)) z (k.1 v (omega arith)))))
@@ -224,10 +224,10 @@ shifts_by f b l t side alpha (Err place) n h k =
     let w = k.within in
     let z : 0 + p ≡ p = omega arith in
     let here : changed (Shifted t.tau side t.entering) p (get l.reduced p) (alpha p) ≡ Err d = subst (λ m. changed (Shifted t.tau side t.entering) m (get l.reduced p) (alpha m) ≡ Err d) z k.stopped in
-    let c = not_there (nat_eq p t.entering) (get l.reduced p) (sub_product (get l.reduced p) t.tau (turned side (alpha p))) d here in
+    let c = not_there (nat_eq p t.entering) (get l.reduced p) (sub_product (get l.reduced p) t.tau (toward side (alpha p))) d here in
     let i = nonbasic_there f b l side alpha (get l.reduced p) t.tau p d h (omega arith) c.1 in (
-      record { spot = method.Shift 1 (p / 64); refused = d },
-      sliced_stop (method.Shift 1) (shift_of f l t) (λ v. is_nonbasic (stand_at b v)) (λ v. not (nat_eq v t.entering)) (variables f) ((variables f + 63) / 64) 0 p d (omega arith) (omega arith) (omega arith) i c.0
+      record { task = Shift 1 (p / 64); refused = d },
+      sliced_stop (Shift 1) (shift_of f l t) (λ v. is_nonbasic (stand_at b v)) (λ v. not (nat_eq v t.entering)) (variables f) ((variables f + 63) / 64) 0 p d (omega arith) (omega arith) (omega arith) i c.0
           (shift_by f b l t side alpha p (Err d) h (omega arith) i c.0 here)
           (λ v u i j.
           let m = k.before v u in
@@ -250,7 +250,7 @@ record IsStep (form : Form) (st : State) (s : Fresh) (row : LeavingRow) (w : Fou
   pub places : AreOfPlaces (form_of form) (basis_of st) s (bounds_at_places form.bounds st.head) st.values
   pub reduced : st.reduced ≡ s.reduced
   pub found : IsFound form st s row w
-  pub takes : TakesStep (form_of form) (basis_of st) s row.place (violation_of row.violation) (step_of st row e)
+  pub takes : TakesStep (form_of form) (basis_of st) s row.place row.violation (step_of st row e)
 
 is_step : (form : Form) (o : Options) (st : State) (h : Option History) (mode : Mode) (s : Fresh) (row : LeavingRow) (chosen : InfeasibleRow) (w : Found) (e : Entering) → IsTried form o st h mode s row chosen → IsFound form st s row w
     → step_at (form_of form) (basis_of st) s chosen.place chosen.violation ≡ Some (step_of st row e) → IsStep form st s row w e
@@ -277,40 +277,30 @@ count_is : (form : Form) → Kept form → variables (form_of form) ≡ length f
 count_is form k = variables_are form.columns form.bounds form.costs k.form
 
 enters_within : (form : Form) (st : State) (s : Fresh) (row : LeavingRow) (w : Found) (e : Entering) → IsStep form st s row w e → e.variable < variables (form_of form)
-enters_within form st s row w e h = (step_exchanges (form_of form) (basis_of st) s row.place (violation_of row.violation) (step_of st row e) h.takes).within
+enters_within form st s row w e h = (step_exchanges (form_of form) (basis_of st) s row.place row.violation (step_of st row e) h.takes).within
 
-enters_nonbasic : (form : Form) (st : State) (s : Fresh) (row : LeavingRow) (w : Found) (e : Entering) → IsStep form st s row w e → ¬ (stand_at (basis_of st) e.variable ≡ basis.Basic)
-enters_nonbasic form st s row w e h = (step_exchanges (form_of form) (basis_of st) s row.place (violation_of row.violation) (step_of st row e) h.takes).enters
+enters_nonbasic : (form : Form) (st : State) (s : Fresh) (row : LeavingRow) (w : Found) (e : Entering) → IsStep form st s row w e → ¬ (stand_at (basis_of st) e.variable ≡ Basic)
+enters_nonbasic form st s row w e h = (step_exchanges (form_of form) (basis_of st) s row.place row.violation (step_of st row e) h.takes).enters
 
 row_long : (form : Form) (st : State) (s : Fresh) (row : LeavingRow) (w : Found) (e : Entering) → IsStep form st s row w e → length w.rho ≡ (form_of form).rows
 row_long form st s row w e h = ap length h.found.rho ∙ h.fresh.row_by_row row.place h.takes.place
 
 -- ---- what is read for it
-limits_are : (form : Form) (v : ℕ) → Kept form → v < length form.columns → limits_read (bounds_of form v) ≡ limits (form_of form) v
-limits_are form v k l = let n = k.form.as_many_bounds in sym (get_or-map limits_by form.bounds v (record { low = None; high = None }) (record { low = None; high = None }) (omega arith))
 
-stand_is : (st : State) (v : ℕ) → v < length st.stands → stand_at (basis_of st) v ≡ stand_of (get_or st.stands v stands.Basic)
-stand_is st v l = get_or-map stand_of st.stands v stands.Basic basis.Zero l
+stand_is : (st : State) (v : ℕ) → v < length st.stands → stand_at (basis_of st) v ≡ (get_or st.stands v stands.Basic)
+stand_is st v l = get_or_default st.stands v Zero stands.Basic l
 
-passed_same : (l : Limits) (side : Side) → passed_by l side ≡ passed_bound l (side_of side)
-passed_same l sides.Above = refl
-passed_same l sides.Below = refl
+bound_is : (form : Form) (st : State) (s : Fresh) (row : LeavingRow) (w : Found) (e : Entering) → IsStep form st s row w e → bound_of form st row ≡ passed_bound (limits (form_of form) (leaving_at st row)) row.violation.side
+bound_is form st s row w e h = refl
 
-bound_is : (form : Form) (st : State) (s : Fresh) (row : LeavingRow) (w : Found) (e : Entering) → IsStep form st s row w e → bound_of form st row ≡ passed_bound (limits (form_of form) (leaving_at st row)) (side_of row.violation.side)
-bound_is form st s row w e h =
-    let n = count_is form h.kept in
-    let l = h.basis.within row.place h.takes.place in
-    passed_same (limits_read (bounds_of form (leaving_at st row))) row.violation.side
-    ∙ ap (λ x. passed_bound x (side_of row.violation.side)) (limits_are form (leaving_at st row) h.kept (omega arith))
-
-standing_same : (l : Limits) (x : Stand) (value : Fraction) → StandsAt l (stand_of x) value → ¬ (stand_of x ≡ basis.Basic) → standing_by l x ≡ value
+standing_same : (l : Bounds) (x : Stand) (value : Fraction) → StandsAt l x value → ¬ (x ≡ Basic) → standing_value l x ≡ value
 standing_same l stands.Basic value h n = absurd (n refl)
 standing_same l stands.Lower value h n = ap value_or_zero h
 standing_same l stands.Upper value h n = ap value_or_zero h
 standing_same l stands.Zero value h n = sym h.2
 
 entering_is : (form : Form) (st : State) (s : Fresh) (row : LeavingRow) (w : Found) (e : Entering) → IsStep form st s row w e
-    → standing_by (limits_read (bounds_of form e.variable)) (get_or st.stands e.variable stands.Basic) ≡ get s.values e.variable
+    → standing_value (bounds_of form e.variable) (get_or st.stands e.variable stands.Basic) ≡ get s.values e.variable
 entering_is form st s row w e h =
     let f = form_of form in
     let b = basis_of st in
@@ -318,16 +308,15 @@ entering_is form st s row w e h =
     let l = enters_within form st s row w e h in
     let m = h.lists.stands in
     let is = stand_is st e.variable (omega arith) in
-    ap (λ x. standing_by x (get_or st.stands e.variable stands.Basic)) (limits_are form e.variable h.kept (omega arith))
-    ∙ standing_same (limits f e.variable) (get_or st.stands e.variable stands.Basic) (get s.values e.variable)
+    standing_same (limits f e.variable) (get_or st.stands e.variable stands.Basic) (get s.values e.variable)
     (subst (λ x. StandsAt (limits f e.variable) x (get s.values e.variable)) is (h.fresh.values.nonbasic e.variable l))
     (λ k. enters_nonbasic form st s row w e h (is ∙ k))
 
-nonbasic_by : (x : basis.Stand) → ¬ (x ≡ basis.Basic) → is_nonbasic x ≡ true
-nonbasic_by basis.Basic n = absurd (n refl)
-nonbasic_by basis.Lower n = refl
-nonbasic_by basis.Upper n = refl
-nonbasic_by basis.Zero n = refl
+nonbasic_by : (x : Stand) → ¬ (x ≡ Basic) → is_nonbasic x ≡ true
+nonbasic_by Basic n = absurd (n refl)
+nonbasic_by Lower n = refl
+nonbasic_by Upper n = refl
+nonbasic_by Zero n = refl
 
 pivot_is : (form : Form) (st : State) (s : Fresh) (row : LeavingRow) (w : Found) (e : Entering) → IsStep form st s row w e → at w.alpha e.variable ≡ row_entry (form_of form) (row_at s row.place) e.variable
 pivot_is form st s row w e h =
@@ -341,8 +330,7 @@ change_is form st v k lists l =
     let m = lists.stands in
     let wide : get_or form.widths v None ≡ width (limits (form_of form) v) =
     ap (λ (ws : List (Option Fraction)). get_or ws v None) k.wide
-    ∙ get_or-map (λ x. width (limits_by x)) form.bounds v (record { low = None; high = None }) None (omega arith)
-    ∙ ap width (limits_are form v k l) in
+    ∙ get_or-map (λ x. width x) form.bounds v (record { low = None; high = None }) None (omega arith) in
     ap (λ x. change_by x (value_or_zero (get_or form.widths v None))) (sym (stand_is st v (omega arith)))
     ∙ ap (λ x. change_by (stand_at (basis_of st) v) (value_or_zero x)) wide
 
@@ -401,7 +389,7 @@ step_parts form st s row w e h =
 row_entries : (form : Form) (st : State) (s : Fresh) (row : LeavingRow) (w : Found) (e : Entering) → IsStep form st s row w e → HasRowEntries (form_of form) (basis_of st) (row_at s row.place) w.alpha
 row_entries form st s row w e h = record { at_variable = h.found.alpha.value }
 
-basic_not : (x : basis.Stand) → is_nonbasic x ≡ true → ¬ (x ≡ basis.Basic)
+basic_not : (x : Stand) → is_nonbasic x ≡ true → ¬ (x ≡ Basic)
 basic_not x e k = let z : true ≡ false = sym e ∙ ap is_nonbasic k in absurd (cc)
 
 entries_turned : (form : Form) (st : State) (s : Fresh) (row : LeavingRow) (w : Found) (e : Entering) → IsStep form st s row w e
@@ -410,7 +398,7 @@ entries_turned form st s row w e h =
     let f = form_of form in
     let b = basis_of st in
     record {
-      nonbasic = λ v l i. entry_turned f b s row.place (violation_of row.violation) row.violation.side w.alpha v h.basis h.fresh h.takes.place refl (row_entries form st s row w e h) l
+      nonbasic = λ v l i. entry_turned f b s row.place row.violation row.violation.side w.alpha v h.basis h.fresh h.takes.place refl (row_entries form st s row w e h) l
           (λ k. basic_not (stand_at b v) i (ap (stand_at b) k ∙ h.basis.basic row.place h.takes.place));
       basic = λ v l i. h.found.alpha.value v l ∙ ap (λ c. cond c (row_entry f (row_at s row.place) v) zero_f) i;
     }
@@ -449,11 +437,11 @@ record HasParts (form : Form) (st : State) (row : LeavingRow) (w : Found) (e : E
   pub flips : flips_from form st w e ≡ Ok step.flips
   pub costs : List Fraction
   pub changes : changes_from (Shifted e.tau row.violation.side e.variable) 0 st.reduced (at w.alpha) ≡ Ok costs
-  pub reduced : step.reduced ≡ set (set costs e.variable zero_f) (leaving_at st row) (neg_f (turned row.violation.side e.tau))
+  pub reduced : step.reduced ≡ set (set costs e.variable zero_f) (leaving_at st row) (neg_f (toward row.violation.side e.tau))
 
 parts_of : (form : Form) (st : State) (row : LeavingRow) (w : Found) (e : Entering) (step : Stepped) → stepped_by form st row w e ≡ Ok step → HasParts form st row w e step
 parts_of form st row w e step k =
-    let put : List Fraction → List Fraction = λ costs. set (set costs e.variable zero_f) (leaving_at st row) (neg_f (turned row.violation.side e.tau)) in
+    let put : List Fraction → List Fraction = λ costs. set (set costs e.variable zero_f) (leaving_at st row) (neg_f (toward row.violation.side e.tau)) in
     let a = spot_ok (spots.Step 1) (flips_from form st w e) _ step k in
     let b = spot_ok (spots.Step 1) (length_from form st row w e a.0) _ step a.2 in
     let c = place_ok (changes_from (Shifted e.tau row.violation.side e.variable) 0 st.reduced (at w.alpha)) (λ costs. Ok (record { flips = a.0; reduced = put costs })) step b.2 in
@@ -477,7 +465,7 @@ flips_known form st s row w e step h k =
     let is : flips_script f b (ascending f e.flips) (zeros f.rows) ≡ Ok step.flips = sym (flips_are form st s row w e h) ∙ k.flips in
     record {
       long = rows_length f b (ascending f e.flips) step.flips is;
-      value = λ i l. rows_value f b s row.place (violation_of row.violation) (step_of st row e) step.flips i h.takes.taken is l;
+      value = λ i l. rows_value f b s row.place row.violation (step_of st row e) step.flips i h.takes.taken is l;
     }
 
 flips_solved : (form : Form) (st : State) (s : Fresh) (row : LeavingRow) (w : Found) (e : Entering) (flips moved : List Fraction) → IsStep form st s row w e → HasFlips form st e flips → forward_script w.steps [] flips ≡ Ok moved
@@ -496,23 +484,23 @@ abbrev history_by : State → Option History → History
 history_by st h = new_history (walk_state st h)
 
 step_told : (form : Form) (st : State) (h : Option History) (s : Fresh) (row : LeavingRow) (chosen : InfeasibleRow) (w : Found) (e : Entering) → IsStep form st s row w e
-    → chosen.place ≡ row.place → chosen.violation ≡ violation_of row.violation
+    → chosen.place ≡ row.place → chosen.violation ≡ row.violation
     → Tells (stepped_by form st row w e) (step_task (form_of form) 1 (minor_by st h s chosen row e) ∷ shift_tasks (form_of form) 1 (minor_by st h s chosen row e))
 step_told form st h s row chosen w e k i j =
     let f = form_of form in
     let b = basis_of st in
     let t = step_of st row e in
-    let same : leaving_of s row ≡ leaving_by s chosen.place chosen.violation = ap (λ p. leaving_by s p (violation_of row.violation)) (sym i) ∙ ap (leaving_by s chosen.place) (sym j) in
+    let same : leaving_of s row ≡ leaving_by s chosen.place chosen.violation = ap (λ p. leaving_by s p row.violation) (sym i) ∙ ap (leaving_by s chosen.place) (sym j) in
     let shift : Tells (changes_from (Shifted e.tau row.violation.side e.variable) 0 st.reduced (at w.alpha)) (shifting f b (leaving_by s chosen.place chosen.violation) t) =
     subst (λ (xs : List Fraction). Tells (changes_from (Shifted e.tau row.violation.side e.variable) 0 xs (at w.alpha)) (shifting f b (leaving_by s chosen.place chosen.violation) t)) (sym k.reduced)
     (subst (λ l. Tells (changes_from (Shifted e.tau row.violation.side e.variable) 0 s.reduced (at w.alpha)) (shifting f b l t)) same
     (shifts_told f b (leaving_of s row) t row.violation.side (at w.alpha) k.fresh.reduced_by_variable (entries_turned form st s row w e k))) in
-    two_told (method.Step 1) (flips_from form st w e) (length_from form st row w e) (refusal (step_script f b s t))
-    (λ flips. at_place (changes_from (Shifted e.tau row.violation.side e.variable) 0 st.reduced (at w.alpha)) (λ costs. Ok (record { flips = flips; reduced = set (set costs e.variable zero_f) (leaving_at st row) (neg_f (turned row.violation.side e.tau)) })))
+    two_told (StepSpot 1) (flips_from form st w e) (length_from form st row w e) (refusal (step_script f b s t))
+    (λ flips. at_place (changes_from (Shifted e.tau row.violation.side e.variable) 0 st.reduced (at w.alpha)) (λ costs. Ok (record { flips = flips; reduced = set (set costs e.variable zero_f) (leaving_at st row) (neg_f (toward row.violation.side e.tau)) })))
     (shifting f b (leaving_by s chosen.place chosen.violation) t)
     (ap refusal (step_parts form st s row w e k))
     (λ flips. turned_told (changes_from (Shifted e.tau row.violation.side e.variable) 0 st.reduced (at w.alpha))
-    (λ costs. record { flips = flips; reduced = set (set costs e.variable zero_f) (leaving_at st row) (neg_f (turned row.violation.side e.tau)) })
+    (λ costs. record { flips = flips; reduced = set (set costs e.variable zero_f) (leaving_at st row) (neg_f (toward row.violation.side e.tau)) })
     (shifting f b (leaving_by s chosen.place chosen.violation) t) shift)
 
 column_refusal : (form : Form) (st : State) (s : Fresh) (row : LeavingRow) (w : Found) (e : Entering) → IsStep form st s row w e
@@ -534,7 +522,7 @@ flips_refusal form st h s row chosen w e flips k g =
 
 abbrev values_from : Form → State → LeavingRow → Entering → List Fraction → List Fraction → Result (List Fraction) Refused
 values_from form st row e moved solved =
-    values_by st.values moved solved (standing_by (limits_read (bounds_of form e.variable)) (get_or st.stands e.variable stands.Basic)) (bound_of form st row) row.place
+    values_by st.values moved solved (standing_value (bounds_of form e.variable) (get_or st.stands e.variable stands.Basic)) (bound_of form st row) row.place
 
 values_are : (form : Form) (st : State) (h : Option History) (s : Fresh) (row : LeavingRow) (chosen : InfeasibleRow) (w : Found) (e : Entering) (flips moved solved : List Fraction) → IsStep form st s row w e → HasFlips form st e flips
     → forward_script w.steps [] flips ≡ Ok moved → solved ≡ column_at s e.variable
@@ -547,13 +535,13 @@ values_are form st h s row chosen w e flips moved solved k g i j =
     (λ p l. change_at_place f r m (get moved) p refl k.fresh (flips_solved form st s row w e flips moved k g i) l)
     ∙ ap (λ x. values_by st.values moved x (entering_value m) (leaving_bound f m) row.place) (sym j)
     ∙ ap (λ x. values_by st.values moved solved x (leaving_bound f m) row.place) (sym (entering_is form st s row w e k))
-    ∙ ap (λ x. values_by st.values moved solved (standing_by (limits_read (bounds_of form e.variable)) (get_or st.stands e.variable stands.Basic)) x row.place) (sym (bound_is form st s row w e k))
+    ∙ ap (λ x. values_by st.values moved solved (standing_value (bounds_of form e.variable) (get_or st.stands e.variable stands.Basic)) x row.place) (sym (bound_is form st s row w e k))
 
 behind_told : (form : Form) (st : State) (h : Option History) (s : Fresh) (row : LeavingRow) (chosen : InfeasibleRow) (w : Found) (e : Entering) (step : Stepped) → IsStep form st s row w e → stepped_by form st row w e ≡ Ok step
     → Tells (solved_by form st row w e step)
-    (solve_task (method.Column 1) (form_of form) (history_by st h) (λ steps. forward_script steps [] (form_column (form_of form) e.variable))
+    (solve_task (Column 1) (form_of form) (history_by st h) (λ steps. forward_script steps [] (form_column (form_of form) e.variable))
     ∷ flips_task (form_of form) (history_by st h) (minor_by st h s chosen row e ∷ [])
-    ∷ task method.Values (values_script (form_of form) (first_of (walk_state st h) s chosen) (minor_by st h s chosen row e ∷ [])) ∷ [])
+    ∷ task Values (values_script (form_of form) (first_of (walk_state st h) s chosen) (minor_by st h s chosen row e ∷ [])) ∷ [])
 behind_told form st h s row chosen w e step k i =
     let f = form_of form in
     let m = minor_by st h s chosen row e in
@@ -561,15 +549,15 @@ behind_told form st h s row chosen w e step k i =
     let column = refusal_by (elimination f st.head) (λ steps. forward_script steps [] (form_column f e.variable)) in
     let flips = refusal_by (elimination f st.head) (λ steps. then (all_flips_script f (m ∷ []) (zeros f.rows)) (λ rows. forward_script steps [] rows)) in
     let values = refusal (values_script f (first_of (walk_state st h) s chosen) (m ∷ [])) in
-    one_told (method.Column 1) (forward_script w.steps [] (column_of form.columns e.variable)) column
+    one_told (Column 1) (forward_script w.steps [] (column_of form.columns e.variable)) column
     (λ solved. at_spot spots.Flips (forward_script w.steps [] step.flips) (λ moved. at_spot spots.Values (values_from form st row e moved solved) (λ new. Ok (record { column = solved; values = new }))))
-    (record { spot = method.Flips; refusal = flips } ∷ record { spot = method.Values; refusal = values } ∷ [])
+    (record { spot = Flips; refusal = flips } ∷ record { spot = Values; refusal = values } ∷ [])
     (column_refusal form st s row w e k)
-    (λ solved a. one_told method.Flips (forward_script w.steps [] step.flips) flips
+    (λ solved a. one_told Flips (forward_script w.steps [] step.flips) flips
     (λ moved. at_spot spots.Values (values_from form st row e moved solved) (λ new. Ok (record { column = solved; values = new })))
-    (record { spot = method.Values; refusal = values } ∷ [])
+    (record { spot = Values; refusal = values } ∷ [])
     (flips_refusal form st h s row chosen w e step.flips k g)
-    (λ moved c. one_told method.Values (values_from form st row e moved solved) values (λ new. Ok (record { column = solved; values = new })) []
+    (λ moved c. one_told Values (values_from form st row e moved solved) values (λ new. Ok (record { column = solved; values = new })) []
     (ap refusal (values_are form st h s row chosen w e step.flips moved solved k g c (column_solved form st s row w e solved k a)))
     (λ new d. refl)))
 
@@ -582,8 +570,8 @@ pivot_told form o st h mode s row chosen w e tried found i =
     let m = minor_by st h s chosen row e in
     let k = is_step form o st h mode s row chosen w e tried found i in
     both_told (stepped_by form st row w e) (λ x. solved_by form st row w e x) (step_task f 1 m ∷ shift_tasks f 1 m)
-    (solve_task (method.Column 1) f (history_by st h) (λ steps. forward_script steps [] (form_column f e.variable))
-    ∷ flips_task f (history_by st h) (m ∷ []) ∷ task method.Values (values_script f (first_of (walk_state st h) s chosen) (m ∷ [])) ∷ [])
+    (solve_task (Column 1) f (history_by st h) (λ steps. forward_script steps [] (form_column f e.variable))
+    ∷ flips_task f (history_by st h) (m ∷ []) ∷ task Values (values_script f (first_of (walk_state st h) s chosen) (m ∷ [])) ∷ [])
     (step_told form st h s row chosen w e k tried.place tried.violation)
     (λ step a. behind_told form st h s row chosen w e step k a)
 
@@ -629,8 +617,8 @@ values_known : (form : Form) (st : State) (s next : Fresh) (row : LeavingRow) (w
 values_known form st s next row w e step behind k g a fresh =
     let f = form_of form in
     let b = basis_of st in
-    let entering = standing_by (limits_read (bounds_of form e.variable)) (get_or st.stands e.variable stands.Basic) in
-    values_behind_are f b s row.place (violation_of row.violation) (step_of st row e) next st.values a.moved entering (bound_of form st row) behind.values k.takes fresh
+    let entering = standing_value (bounds_of form e.variable) (get_or st.stands e.variable stands.Basic) in
+    values_behind_are f b s row.place row.violation (step_of st row e) next st.values a.moved entering (bound_of form st row) behind.values k.takes fresh
     (record {
       by_place = k.places.places;
       value = k.places.value;
@@ -652,7 +640,7 @@ reduced_known form st s next row w e step k a fresh =
     let apart : ¬ (e.variable ≡ head_at b row.place) = λ i. enters_nonbasic form st s row w e k (ap (stand_at b) i ∙ k.basis.basic row.place k.takes.place) in
     let all : ChangesTo c 0 s.reduced (at w.alpha) (Ok a.costs) =
     subst (λ o. ChangesTo c 0 s.reduced (at w.alpha) o) (ap (λ (xs : List Fraction). changes_from c 0 xs (at w.alpha)) (sym k.reduced) ∙ a.changes) (changes_to c 0 s.reduced (at w.alpha)) in
-    reduced_behind_are f b s row.place (violation_of row.violation) (step_of st row e) next side w.alpha step.reduced k.takes fresh refl (row_entries form st s row w e k) out within apart
+    reduced_behind_are f b s row.place row.violation (step_of st row e) next side w.alpha step.reduced k.takes fresh refl (row_entries form st s row w e k) out within apart
     (record {
       costs = a.costs;
       changed = record {

@@ -17,24 +17,23 @@ use Rattle.pami_theory.proofs.Solved.{only_fresh}
 use Rattle.pami_theory.proofs.Tables.{tabled_length, tabled_at}
 use Rattle.pami_theory.proofs.Violations.{violation_none}
 use Rattle.pami_method.specs.Factor.{History}
-use Rattle.pami_method.specs.Place.{RefusedAt}
+use Rattle.pami_method.specs.declared.words.Place.{Place}
+use Rattle.pami_method.specs.declared.words.Mode.{Mode}
+use Rattle.pami_method.specs.declared.words.Mode.TheVariants.{Full, Single}
 use Rattle.pami_method.specs.Walk as method
-use Rattle.pami_chuzr.specs.Violation.{side_of}
-use Rattle.pami_vec.specs.declared.violation.Side.{Side}
+use Rattle.pami_theory.specs.declared.words.Side.{Side}
 use Rattle.pami_form.specs.declared.form.Form.{Form}
-use Rattle.pami_state.specs.Columns.{rows_of, limits_by}
+use Rattle.pami_state.specs.Columns.{rows_of}
 use Rattle.pami_state.specs.State.{basis_of}
 use Rattle.pami_state.specs.declared.state.State.{State}
-use Rattle.pami_log.specs.declared.place.Place.{Place}
-use Rattle.pami_log.specs.declared.event.Mode.{Mode}
-use Rattle.pami_log.specs.declared.event.Mode.TheVariants as modes
+use Rattle.pami_method.specs.declared.words.Mode.TheVariants as modes
 use Rattle.pami_log.specs.declared.event.Event.{Event}
 use Rattle.pami_log.specs.declared.event.Event.TheVariants as told
-use Rattle.pami_log.specs.Events.{told_place, major_event, refused_events, events_by, events_after, events_of}
+use Rattle.pami_log.specs.Events.{major_event, refused_events, events_by, events_after, events_of}
 use Rattle.pami_major.specs.Ready.{form_of, IsReady}
 use Rattle.pami_major.specs.Within.{IsWithinAt, AreWithin, IsSomeOutside}
-use Rattle.pami_major.specs.Walks.{options_by, mode_by, walk_state, IsKept, IsStuck, IsRefused, Majored, IsUnderway, majors_left, IsWalkedWhole, FollowsTurn, IsOnward, FollowsEnd, state_by, last_state}
-use Rattle.pami_major.specs.declared.options.Options.{Options}
+use Rattle.pami_major.specs.Walks.{walk_state, IsKept, IsStuck, IsRefused, Majored, IsUnderway, majors_left, IsWalkedWhole, FollowsTurn, IsOnward, FollowsEnd, state_by, last_state}
+use Rattle.pami_method.specs.declared.words.Options.{Options}
 use Rattle.pami_major.specs.declared.one_row.MajorEnd.{MajorEnd}
 use Rattle.pami_major.specs.declared.one_row.MajorEnd.TheVariants as majors
 use Rattle.pami_major.specs.declared.walk.WalkEnd.{WalkEnd}
@@ -49,13 +48,13 @@ use Rattle.pami_major.proofs.Ready.{Kept}
 -- ---- whether a major is due
 -- what is read at a place, whatever stands past the end
 pub outside_at : (head : List ℕ) (bounds : List Bounds) (values : List Fraction) (p : ℕ) (b : Bounds) (x : Fraction) → p < length head → length values ≡ length head → All (λ v. v < length bounds) head
-    → x ≡ slice_index_or values p x → b ≡ slice_index_or bounds (slice_index_or head p 0) b → ¬ IsWithin (limits_by b) x → IsSomeOutside head bounds values
+    → x ≡ slice_index_or values p x → b ≡ slice_index_or bounds (slice_index_or head p 0) b → ¬ IsWithin b x → IsSomeOutside head bounds values
 outside_at head bounds values p b x l e known vx bx n = record {
   place = p;
   within = l;
   outside = λ h. n
-      (subst (λ z. IsWithin (limits_by z) x) (sym (bx ∙ get_or_default bounds (slice_index_or head p 0) b (record { low = None; high = None }) (All-get_or (λ v. v < length bounds) head p 0 l known)))
-      (subst (IsWithin (limits_by (slice_index_or bounds (slice_index_or head p 0) (record { low = None; high = None })))) (sym (vx ∙ get_or_default values p x zero_f (subst (λ m. p < m) (sym e) l))) h));
+      (subst (λ z. IsWithin z x) (sym (bx ∙ get_or_default bounds (slice_index_or head p 0) b (record { low = None; high = None }) (All-get_or (λ v. v < length bounds) head p 0 l known)))
+      (subst (IsWithin (slice_index_or bounds (slice_index_or head p 0) (record { low = None; high = None }))) (sym (vx ∙ get_or_default values p x zero_f (subst (λ m. p < m) (sym e) l))) h));
 }
 
 -- a state that is ready has a value at each place, and a variable of the form
@@ -75,8 +74,7 @@ within_is form limit st s p r fresh l =
     let same : r.solved.fresh ≡ s = only_fresh f b r.solved.fresh s r.basis r.solved.solved fresh in
     let value : get st.values p ≡ value_at_place b s p =
     ap (λ (xs : List Fraction). get xs p) r.solved.values ∙ tabled_at (rows_of form.columns) (value_at_place b r.solved.fresh) p zero_f l ∙ ap (λ (x : Fresh). value_at_place b x p) same in
-    let bound : limits f (head_at b p) ≡ limits_by (slice_index_or form.bounds (head_at b p) (record { low = None; high = None })) = get_or-map limits_by form.bounds (head_at b p) (record { low = None; high = None }) in
-    ap (λ v. IsWithin (limits_by (slice_index_or form.bounds (head_at b p) (record { low = None; high = None }))) v) value ∙ ap (λ m. IsWithin m (value_at_place b s p)) (sym bound)
+    ap (λ v. IsWithin (slice_index_or form.bounds (head_at b p) (record { low = None; high = None })) v) value
 
 -- no place is outside exactly where no row is infeasible at the fresh values
 pub none_outside : (form : Form) (limit : ℕ) (st : State) (s : Fresh) → IsReady form limit st → IsFresh (form_of form) (basis_of st) s
@@ -143,25 +141,25 @@ whole_of form o first end state events x e s v w =
 
 -- the walk goes on behind a kept major
 kept_goes : (form : Form) (o : Options) (first : method.State) (old : State) (mode : Mode) (number : ℕ) (events : List Event) (new : State) (event : Event)
-    → (u : IsUnderway form o first old mode number events) → IsKept form o number (mode_by mode) (walk_state old u.history) new event
+    → (u : IsUnderway form o first old mode number events) → IsKept form o number mode (walk_state old u.history) new event
     → IsUnderway form o first new modes.Full (number + 1) (events ++ event ∷ [])
 kept_goes form o first old mode number events new event u k =
     let f = form_of form in
-    let p = options_by o in
+    let p = o in
     let st = walk_state old u.history in
     let next = walk_state new (Some k.history) in
     record {
       ready = k.ready;
       history = Some k.history;
-      worn = k.worn method.Full;
+      worn = k.worn Full;
       rest = λ gs end w.
-          let onward : method.IsWalk f p (suc number) method.Full next gs end = subst (λ n. method.IsWalk f p n method.Full next gs end) (add-one number) w in
+          let onward : method.IsWalk f p (suc number) Full next gs end = subst (λ n. method.IsWalk f p n Full next gs end) (add-one number) w in
           let all = u.rest (k.major ∷ gs) end
           (k.due, subst (λ (a : method.After). method.GoesAfter gs end a (λ m t. method.IsWalk f p (suc number) m t gs end)) (sym k.goes) onward) in (
             all.0,
             all.1,
             all.2
-                ∙ ap (λ (x : Option RefusedAt). events ++ (events_by f o.limit k.major x ++ events_after (method.after f p st k.major) (λ t. events_of f p t gs))) k.fits
+                ∙ ap (λ (x : Option Place). events ++ (events_by f o.limit k.major x ++ events_after (method.after f p st k.major) (λ t. events_of f p t gs))) k.fits
                 ∙ ap (λ (a : method.After). events ++ (major_event f o.limit k.major ∷ events_after a (λ t. events_of f p t gs))) k.goes
                 ∙ ap (λ (e : Event). events ++ (e ∷ events_of f p next gs)) (sym k.told)
                 ∙ sym (append_assoc events (event ∷ []) (events_of f p next gs)),
@@ -170,35 +168,35 @@ kept_goes form o first old mode number events new event u k =
     }
 
 -- what becomes of a refused major
-after_refused : (form : Form) (o : Options) (number : ℕ) (mode : method.Mode) (st : method.State) (place : Place) → (r : IsRefused form o number mode st place)
-    → method.after (form_of form) (options_by o) st r.major ≡ method.refused_after mode st r.refused
+after_refused : (form : Form) (o : Options) (number : ℕ) (mode : Mode) (st : method.State) (place : Place) → (r : IsRefused form o number mode st place)
+    → method.after (form_of form) o st r.major ≡ method.refused_after mode st r.refused
 after_refused form o number mode st place r =
-    ap (method.after_by (form_of form) (options_by o) st r.major) r.is_refused ∙ ap (λ m. method.refused_after m st r.refused) r.due.in_mode
+    ap (method.after_by (form_of form) o st r.major) r.is_refused ∙ ap (λ m. method.refused_after m st r.refused) r.due.in_mode
 
 -- a Full major is rolled back, and the walk goes on in Single from the same state
 rolled_back : (form : Form) (o : Options) (first : method.State) (old : State) (number : ℕ) (events : List Event) (place : Place)
-    → (u : IsUnderway form o first old modes.Full number events) → IsRefused form o number method.Full (walk_state old u.history) place
+    → (u : IsUnderway form o first old modes.Full number events) → IsRefused form o number Full (walk_state old u.history) place
     → IsUnderway form o first old modes.Single (number + 1) (events ++ told.Rollback number place ∷ [])
 rolled_back form o first old number events place u r =
     let f = form_of form in
-    let p = options_by o in
+    let p = o in
     let st = walk_state old u.history in
-    let goes = after_refused form o number method.Full st place r in
+    let goes = after_refused form o number Full st place r in
     record {
       ready = u.ready;
       history = u.history;
       worn = refl;
       rest = λ gs end w.
-          let onward : method.IsWalk f p (suc number) method.Single st gs end = subst (λ n. method.IsWalk f p n method.Single st gs end) (add-one number) w in
+          let onward : method.IsWalk f p (suc number) Single st gs end = subst (λ n. method.IsWalk f p n Single st gs end) (add-one number) w in
           let all = u.rest (r.major ∷ gs) end
           (r.due, subst (λ (a : method.After). method.GoesAfter gs end a (λ m t. method.IsWalk f p (suc number) m t gs end)) (sym goes) onward) in (
             all.0,
             all.1,
             all.2
-                ∙ ap (λ (x : Option RefusedAt). events ++ (events_by f o.limit r.major x ++ events_after (method.after f p st r.major) (λ t. events_of f p t gs))) r.is_refused
+                ∙ ap (λ (x : Option Place). events ++ (events_by f o.limit r.major x ++ events_after (method.after f p st r.major) (λ t. events_of f p t gs))) r.is_refused
                 ∙ ap (λ (a : method.After). events ++ (refused_events r.major.number r.major.mode r.refused ++ events_after a (λ t. events_of f p t gs))) goes
-                ∙ ap (λ (m : method.Mode). events ++ (refused_events r.major.number m r.refused ++ events_of f p st gs)) r.due.in_mode
-                ∙ ap (λ n. events ++ (told.Rollback n (told_place r.refused) ∷ events_of f p st gs)) r.due.numbered
+                ∙ ap (λ (m : Mode). events ++ (refused_events r.major.number m r.refused ++ events_of f p st gs)) r.due.in_mode
+                ∙ ap (λ n. events ++ (told.Rollback n r.refused ∷ events_of f p st gs)) r.due.numbered
                 ∙ ap (λ (x : Place). events ++ (told.Rollback number x ∷ events_of f p st gs)) (sym r.told)
                 ∙ sym (append_assoc events (told.Rollback number place ∷ []) (events_of f p st gs)),
             all.3 ∙ ap (λ (a : method.After). state_by a st (λ t. last_state f p t gs)) goes,
@@ -207,14 +205,14 @@ rolled_back form o first old number events place u r =
 
 -- a Single major that is refused ends the walk, and isn't told
 overflow_ends : (form : Form) (o : Options) (first : method.State) (old : State) (number : ℕ) (events : List Event) (place : Place)
-    → (u : IsUnderway form o first old modes.Single number events) → IsRefused form o number method.Single (walk_state old u.history) place
+    → (u : IsUnderway form o first old modes.Single number events) → IsRefused form o number Single (walk_state old u.history) place
     → IsWalkedWhole form o first (record { end = ends.Overflow place; state = old; events = events })
 overflow_ends form o first old number events place u r =
     let f = form_of form in
-    let p = options_by o in
+    let p = o in
     let st = walk_state old u.history in
     let end = method.Overflow r.refused in
-    let goes = after_refused form o number method.Single st place r in
+    let goes = after_refused form o number Single st place r in
     let all = u.rest (r.major ∷ []) end
     (r.due, subst (λ (a : method.After). method.GoesAfter [] end a (λ m t. method.IsWalk f p (suc number) m t [] end)) (sym goes) (refl, refl)) in
     record {
@@ -226,9 +224,9 @@ overflow_ends form o first old number events place u r =
         told_state = (u.history, all.3 ∙ ap (λ (a : method.After). state_by a st (λ t. last_state f p t [])) goes);
         told_events = sym (
             all.2
-            ∙ ap (λ (x : Option RefusedAt). events ++ (events_by f o.limit r.major x ++ events_after (method.after f p st r.major) (λ t. events_of f p t []))) r.is_refused
+            ∙ ap (λ (x : Option Place). events ++ (events_by f o.limit r.major x ++ events_after (method.after f p st r.major) (λ t. events_of f p t []))) r.is_refused
             ∙ ap (λ (a : method.After). events ++ (refused_events r.major.number r.major.mode r.refused ++ events_after a (λ t. events_of f p t []))) goes
-            ∙ ap (λ (m : method.Mode). events ++ (refused_events r.major.number m r.refused ++ [])) r.due.in_mode
+            ∙ ap (λ (m : Mode). events ++ (refused_events r.major.number m r.refused ++ [])) r.due.in_mode
             ∙ append-nil events
             );
       };
@@ -238,13 +236,13 @@ overflow_ends form o first old number events place u r =
 
 -- a row without an entering variable ends it too
 stuck_ends : (form : Form) (o : Options) (first : method.State) (old : State) (mode : Mode) (number : ℕ) (events : List Event) (event : Event) (place : ℕ) (side : Side) (rho : List Fraction)
-    → (u : IsUnderway form o first old mode number events) → IsStuck form o number (mode_by mode) (walk_state old u.history) event place side rho
+    → (u : IsUnderway form o first old mode number events) → IsStuck form o number mode (walk_state old u.history) event place side rho
     → IsWalkedWhole form o first (record { end = ends.NoEntering place side rho; state = old; events = events ++ event ∷ [] })
 stuck_ends form o first old mode number events event place side rho u k =
     let f = form_of form in
-    let p = options_by o in
+    let p = o in
     let st = walk_state old u.history in
-    let end = method.NoEntering place (side_of side) rho in
+    let end = method.NoEntering place side rho in
     let all = u.rest (k.major ∷ []) end
     (k.due, subst (λ (a : method.After). method.GoesAfter [] end a (λ m t. method.IsWalk f p (suc number) m t [] end)) (sym k.ends) (refl, refl)) in
     record {
@@ -256,7 +254,7 @@ stuck_ends form o first old mode number events event place side rho u k =
         told_state = (u.history, all.3 ∙ ap (λ (a : method.After). state_by a st (λ t. last_state f p t [])) k.ends);
         told_events = sym (
             all.2
-            ∙ ap (λ (x : Option RefusedAt). events ++ (events_by f o.limit k.major x ++ events_after (method.after f p st k.major) (λ t. events_of f p t []))) k.fits
+            ∙ ap (λ (x : Option Place). events ++ (events_by f o.limit k.major x ++ events_after (method.after f p st k.major) (λ t. events_of f p t []))) k.fits
             ∙ ap (λ (a : method.After). events ++ (major_event f o.limit k.major ∷ events_after a (λ t. events_of f p t []))) k.ends
             ∙ ap (λ (e : Event). events ++ (e ∷ [])) (sym k.told)
             );
@@ -289,7 +287,7 @@ onward_of form o first old mode number state then_mode events next h u l = (
 
 pub end_follows : (form : Form) (o : Options) (first : method.State) (old : State) (mode : Mode) (number : ℕ) (events : List Event) (end : MajorEnd) (turned : Turned)
     → IsUnderway form o first old mode number events → old.pivots < o.limit
-    → ((h : Option History) → method.eliminates_anew (options_by o) (mode_by mode) h ≡ true → Majored form o number mode old h end)
+    → ((h : Option History) → method.eliminates_anew o mode h ≡ true → Majored form o number mode old h end)
     → FollowsEnd end mode number events turned → FollowsTurn form o first old mode number turned
 end_follows form o first old mode number events (majors.Moved new event) (turns.Ends walked) u l m h = absurd h
 end_follows form o first old mode number events (majors.Moved new event) (turns.GoesOn next) u l m h =

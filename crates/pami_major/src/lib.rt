@@ -12,15 +12,13 @@ mod change;
 mod choose;
 mod collect;
 mod one_row;
-mod options;
 mod shift;
 mod solve;
-mod sparse;
 mod step;
 mod take;
 mod tried;
 mod walk;
 mod within;
 
-pub use options::Options;
+pub use pami_method::{Mode, Options};
 pub use walk::{WalkEnd, Walked, drive};

@@ -2,23 +2,23 @@
 
 ghost use Rattle.std.specs.Prelude.{◌≡◌, ◌<◌, ◌≤◌, ◌+◌, ◌++◌, ◌∷◌, [], ℕ, Option, List, map, length, true, IfOk};
 ghost use Rattle.pami_method.specs.Factor.{History};
-ghost use Rattle.pami_method.specs.Walk.{eliminates_anew};
+ghost use Rattle.pami_method.specs.Walk.{IsOptions, eliminates_anew};
 ghost use Rattle.pami_log.specs.declared.event.Move.TheVariants.{Flipped, Pivoted};
 ghost use Rattle.pami_major.specs.Ready.{IsReady};
 ghost use Rattle.pami_major.specs.Tried.{leaving_at, AreMovable};
 ghost use Rattle.pami_major.specs.Majors.{IsTaken};
 ghost use Rattle.pami_major.specs.Within.{IsSomeOutside};
-ghost use Rattle.pami_major.specs.Walks.{options_by, mode_by, IsOneRow, Majored};
+ghost use Rattle.pami_major.specs.Walks.{IsOneRow, Majored};
 
 use crate::behind::state_behind;
 use crate::choose::{LeavingRow, leaving_row};
-use crate::options::Options;
 use crate::step::Flip;
 use crate::tried::{Tried, WorkedStep, try_row};
 use pami_form::Form;
 use pami_frac::{Fault, OutOfMemory};
 use pami_log::{Event, Mode, Move, Place, Record, Spot};
 use pami_lu::Steps;
+use pami_method::Options;
 use pami_state::State;
 use pami_vec::{PlaceList, Side, SpVec};
 use std::alloc::Global;
@@ -195,12 +195,13 @@ pub(crate) fn major<L>(
     options: &Options,
     steps: &mut Steps<L>,
 ) -> Result<MajorEnd, OutOfMemory>
+    requires options { IsOptions options.now }
     requires one_row { IsOneRow options.now }
     requires ready { IsReady form.now options.now.limit state }
     requires below { state.pivots < options.now.limit }
     requires due { IsSomeOutside state.head form.now.bounds state.values }
     // Whatever the history of the factor, as long as the major eliminates anew.
-    ensures majored { IfOk result (λ end. (h : Option History) → eliminates_anew (options_by options.now) (mode_by mode) h ≡ true → Majored form.now options.now number mode state h end) }
+    ensures majored { IfOk result (λ end. (h : Option History) → eliminates_anew options.now mode h ≡ true → Majored form.now options.now number mode state h end) }
     ensures counted { steps.new.count ≤ steps.old.count + 4 }
 {
     let row = match leaving_row(

@@ -1,17 +1,17 @@
 //! The walk: majors from a state on until there is an answer. (Huangfu and Hall 2018, section 3, with one row a major.)
 
 ghost use Rattle.std.specs.Prelude.{◌≡◌, ◌<◌, ◌+◌, ◌^◌, None, IfOk};
-ghost use Rattle.pami_method.specs.Walk.{State as MethodState};
+ghost use Rattle.pami_method.specs.Walk.{State as MethodState, IsOptions};
 ghost use Rattle.pami_major.specs.Ready.{form_of, IsReady};
-ghost use Rattle.pami_major.specs.Walks.{options_by, walk_state, IsOneRow, IsRowOfEnd, IsWalked, IsUnderway, FollowsTurn, FollowsEnd};
+ghost use Rattle.pami_major.specs.Walks.{walk_state, IsOneRow, IsRowOfEnd, IsWalked, IsUnderway, FollowsTurn, FollowsEnd};
 
 use crate::one_row::{MajorEnd, major};
-use crate::options::Options;
 use crate::within::has_infeasible;
 use pami_form::Form;
 use pami_frac::OutOfMemory;
 use pami_log::{Event, EventList, Mode, Place};
 use pami_lu::Steps;
+use pami_method::Options;
 use pami_state::State;
 use pami_vec::{Side, SpVec};
 use std::alloc::Global;
@@ -115,6 +115,7 @@ fn turn<L>(
     walk: Underway,
     steps: &mut Steps<L>,
 ) -> Result<Turned, OutOfMemory>
+    requires options { IsOptions options.now }
     requires one_row { IsOneRow options.now }
     requires ready { IsReady form.now options.now.limit walk.state }
     requires number { walk.number + 1 < 2 ^ 64 }
@@ -156,12 +157,13 @@ pub fn drive<L>(
     options: &Options,
     steps: &mut Steps<L>,
 ) -> Result<Walked, OutOfMemory>
+    requires options { IsOptions options.now }
     requires one_row { IsOneRow options.now }
     requires ready { IsReady form.now options.now.limit first }
     // The last state is dual feasible and solved afresh, as the first one.
     ensures ready { IfOk result (λ w. IsReady form.now options.now.limit w.state) }
     ensures row { IfOk result (λ w. IsRowOfEnd form.now w.end) }
-    ensures walked { IfOk result (λ w. IsWalked (form_of form.now) (options_by options.now) (walk_state first None) w.end w.state w.events) }
+    ensures walked { IfOk result (λ w. IsWalked (form_of form.now) options.now (walk_state first None) w.end w.state w.events) }
 {
     let mut walk = Underway {
         state: first,

@@ -7,14 +7,17 @@ use Rattle.pami_linear.specs.Lists.{get}
 use Rattle.pami_theory.specs.Form.{Form, variables, limits, zero_f, IsUncrossed}
 use Rattle.pami_theory.specs.Basis.{Basis, IsBasis}
 use Rattle.pami_theory.specs.Fresh.{Fresh, IsDualFeasible}
-use Rattle.pami_theory.specs.Violation.{Side, Above, Below}
+use Rattle.pami_theory.specs.declared.words.Side.{Side}
+use Rattle.pami_theory.specs.declared.words.Side.TheVariants.{Above, Below}
 use Rattle.pami_theory.specs.Boxes.{boxes_of}
 use Rattle.pami_theory.specs.Ratio.{toward}
 use Rattle.pami_theory.specs.Certificate.{HoldsOptimal, HoldsInfeasible, HoldsDualInfeasible}
 use Rattle.pami_theory.proofs.Starts.{start_is_basis}
 use Rattle.pami_theory.proofs.Switched.{switch_is_basis}
 use Rattle.pami_theory.proofs.Farkas.{no_feasible_point}
-use Rattle.pami_method.specs.Walk.{Options, State, Full, Major, WalkEnd, Optimal as WalkOptimal, Limit as WalkLimit, NoEntering, Overflow as WalkOverflow}
+use Rattle.pami_method.specs.declared.words.Mode.TheVariants.{Full}
+use Rattle.pami_method.specs.declared.words.Options.{Options}
+use Rattle.pami_method.specs.Walk.{State, Major, WalkEnd, Optimal as WalkOptimal, Limit as WalkLimit, NoEntering, Overflow as WalkOverflow}
 use Rattle.pami_method.specs.Phases.{starting_state, switched_state, Record, Answer, Optimal, Infeasible, DualInfeasible, Limit, Overflow, ray, IsAnswer, IsEarlyAnswer, IsPhaseOne, IsSwitch, IsRun, refused_start, in_phase_two, refused_boxes, in_phase_one, dual_infeasible, refused_switch, in_both}
 use Rattle.pami_method.proofs.Walks.{walk_ends_at_basis}
 use Rattle.pami_theory.proofs.Decided.{infeasible_same}

@@ -17,7 +17,8 @@ use Rattle.pami_theory.proofs.Chosen.{has_filter_map, rows_are}
 use Rattle.pami_theory.proofs.Solved.{has_fresh}
 use Rattle.pami_theory.proofs.Steps.{step_is_basis, step_regular}
 use Rattle.pami_method.specs.Batch.{Reached, Minor, Turn, AtLimit, NoRow, Stuck, Pivots, row_now, keeps_merit, is_attractive, staying, dropped, with_step, with_rows, turn, IsNext, EndsBatch, IsBatch}
-use Rattle.pami_method.specs.Walk.{Options, State, most, Major, IsMajor, NeedsMajor}
+use Rattle.pami_method.specs.declared.words.Options.{Options}
+use Rattle.pami_method.specs.Walk.{State, most, Major, IsMajor, NeedsMajor}
 use Rattle.pami_method.proofs.Turns.{pivot_takes_step, next_rows_fewer}
 use Rattle.pami_method.proofs.Counts.{batch_counts}
 

@@ -3,9 +3,12 @@ use Rattle.std.proofs.Common.{◌≡◌, ℕ, suc, ◌+◌, ◌≤◌, List, [],
 use Rattle.std.specs.List.{All}
 use Rattle.std.proofs.lemmas.List.Elements.{All-nil, All-cons}
 use Rattle.pami_theory.specs.Form.{Form}
-use Rattle.pami_method.specs.Place.{RefusedAt}
+use Rattle.pami_method.specs.declared.words.Place.{Place}
 use Rattle.pami_method.specs.Batch.{Reached, Minor, Turn, AtLimit, NoRow, Stuck, Pivots, turn, IsBatch}
-use Rattle.pami_method.specs.Walk.{Options, State, Mode, Full, Single, Major, IsMajor, refused_in, WalkEnd, Optimal, Limit, NoEntering, Overflow, EndsAt, After, Ends, GoesOn, refused_after, turn_after, after_by, after, GoesAfter, IsWalk}
+use Rattle.pami_method.specs.declared.words.Mode.{Mode}
+use Rattle.pami_method.specs.declared.words.Mode.TheVariants.{Full, Single}
+use Rattle.pami_method.specs.declared.words.Options.{Options}
+use Rattle.pami_method.specs.Walk.{State, Major, IsMajor, refused_in, WalkEnd, Optimal, Limit, NoEntering, Overflow, EndsAt, After, Ends, GoesOn, refused_after, turn_after, after_by, after, GoesAfter, IsWalk}
 use Rattle.pami_method.proofs.Turns.{pivot_parts, next_rows_fewer}
 
 -- ---- a batch
@@ -49,7 +52,7 @@ abbrev GoesOnWithin : ℕ → After → Type 0
 GoesOnWithin limit (Ends end) = EndsWithin limit end
 GoesOnWithin limit (GoesOn mode st) = st.count ≤ limit
 
-refused_within : (limit : ℕ) (mode : Mode) (st : State) (r : RefusedAt) → st.count ≤ limit → GoesOnWithin limit (refused_after mode st r)
+refused_within : (limit : ℕ) (mode : Mode) (st : State) (r : Place) → st.count ≤ limit → GoesOnWithin limit (refused_after mode st r)
 refused_within limit Full st r l = l
 refused_within limit Single st r l = tt
 
@@ -59,7 +62,7 @@ turn_within o st g (NoRow d) l = l
 turn_within o st g (Stuck d row) l = tt
 turn_within o st g (Pivots d row s) l = l
 
-after_within : (f : Form) (o : Options) (st : State) (g : Major) (r : Option RefusedAt) → st.count ≤ o.limit → g.last.count ≤ o.limit → GoesOnWithin o.limit (after_by f o st g r)
+after_within : (f : Form) (o : Options) (st : State) (g : Major) (r : Option Place) → st.count ≤ o.limit → g.last.count ≤ o.limit → GoesOnWithin o.limit (after_by f o st g r)
 after_within f o st g None l m = turn_within o st g (turn f o.limit g.last) m
 after_within f o st g (Some r) l m = refused_within o.limit g.mode st r l
 

@@ -19,7 +19,8 @@ use Rattle.pami_script.proofs.Scripts.{then_ok}
 use Rattle.pami_theory.specs.Form.{Form, variables, limits, coefficient, zero_f}
 use Rattle.pami_theory.specs.Basis.{Basis}
 use Rattle.pami_theory.specs.Fresh.{Fresh, row_at, value_at_place}
-use Rattle.pami_theory.specs.Violation.{Violation, passed_bound}
+use Rattle.pami_theory.specs.declared.words.Violation.{Violation}
+use Rattle.pami_theory.specs.Violation.{passed_bound}
 use Rattle.pami_theory.specs.Order.{ordered}
 use Rattle.pami_theory.specs.Ratio.{Entering, ratio_walk, row_entry, walks_before}
 use Rattle.pami_theory.specs.Step.{Step, step_by, step_at, leaving_at, is_among, flip_change, flips_change, theta}

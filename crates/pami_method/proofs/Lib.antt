@@ -13,8 +13,3 @@ pub mod Answers
 pub mod BatchExists
 pub mod WalkExists
 pub mod RunExists
-pub mod FreshTests
-pub mod Facts
-pub mod BlendingRun
-pub mod SmallRuns
-pub mod PhaseRuns

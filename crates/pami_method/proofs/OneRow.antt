@@ -10,13 +10,14 @@ use Rattle.pami_script.specs.Script.{then}
 use Rattle.pami_theory.specs.Form.{Form}
 use Rattle.pami_theory.specs.Basis.{Basis}
 use Rattle.pami_theory.specs.Fresh.{Fresh, column_at}
-use Rattle.pami_theory.specs.Violation.{Violation}
+use Rattle.pami_theory.specs.declared.words.Violation.{Violation}
 use Rattle.pami_theory.specs.Order.{put_in, ordered}
 use Rattle.pami_theory.specs.Step.{Step, step_at, theta}
 use Rattle.pami_theory.specs.Choice.{InfeasibleRow, infeasible_at, infeasible_rows, is_chosen_before, chosen}
 use Rattle.pami_theory.proofs.Members.{Has, range_has}
 use Rattle.pami_theory.proofs.Orders.{ordered_has}
-use Rattle.pami_method.specs.Place.{Choose, Factor, Reach, Column, Transform, Values, Task, task, refusal}
+use Rattle.pami_method.specs.Task.{Task, task, refusal}
+use Rattle.pami_method.specs.declared.words.Spot.TheVariants.{Choose, Factor, Reach, Column, Transform, Values}
 use Rattle.pami_method.specs.Factor.{History, elimination, unfit, solve_task}
 use Rattle.pami_method.specs.Scripts.{each_number, place_script, choose_script, row_script, reach_script}
 use Rattle.pami_method.specs.Batch.{Reached, Minor, Turn, AtLimit, NoRow, Stuck, Pivots, places, keeps_merit, row_now, is_attractive, staying, dropped, with_step, with_rows, turn, IsNext, EndsBatch, IsBatch}

@@ -9,7 +9,9 @@ use Rattle.pami_theory.specs.Boxes.{boxes_of, switched_basis, CanBeDualFeasible}
 use Rattle.pami_theory.proofs.Starts.{start_is_basis}
 use Rattle.pami_theory.proofs.Solved.{has_fresh, fresh_regular, start_regular}
 use Rattle.pami_theory.proofs.Switched.{switch_is_basis, switch_regular}
-use Rattle.pami_method.specs.Walk.{Options, State, Full, Major, WalkEnd, Optimal as WalkOptimal, Limit as WalkLimit, NoEntering, Overflow as WalkOverflow}
+use Rattle.pami_method.specs.declared.words.Mode.TheVariants.{Full}
+use Rattle.pami_method.specs.declared.words.Options.{Options}
+use Rattle.pami_method.specs.Walk.{State, Major, WalkEnd, Optimal as WalkOptimal, Limit as WalkLimit, NoEntering, Overflow as WalkOverflow}
 use Rattle.pami_method.specs.Phases.{start_refused, starting_state, switch_refused, switched_state, Record, Answer, Optimal, Infeasible, Limit, Overflow, ray, IsAnswer, IsPhaseOne, IsSwitch, IsRun, refused_start, in_phase_two, refused_boxes, in_phase_one, dual_infeasible, refused_switch, in_both}
 use Rattle.pami_theory.proofs.Decided.{feasible_or_not, can_or_not}
 use Rattle.pami_method.proofs.Counts.{EndsWithin, walk_within}

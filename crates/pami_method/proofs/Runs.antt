@@ -9,8 +9,10 @@ use Rattle.pami_theory.specs.Boxes.{boxes_of, CanBeDualFeasible, switched_basis}
 use Rattle.pami_theory.proofs.Starts.{start_is_basis}
 use Rattle.pami_theory.proofs.Solved.{only_fresh}
 use Rattle.pami_theory.proofs.Switched.{switch_is_basis}
-use Rattle.pami_method.specs.Place.{Start, Switch}
-use Rattle.pami_method.specs.Walk.{Options, State, Full, Major, WalkEnd, Optimal as WalkOptimal, Limit as WalkLimit, NoEntering, Overflow as WalkOverflow, IsWalk}
+use Rattle.pami_method.specs.declared.words.Spot.TheVariants.{Start, Switch}
+use Rattle.pami_method.specs.declared.words.Mode.TheVariants.{Full}
+use Rattle.pami_method.specs.declared.words.Options.{Options}
+use Rattle.pami_method.specs.Walk.{State, Major, WalkEnd, Optimal as WalkOptimal, Limit as WalkLimit, NoEntering, Overflow as WalkOverflow, IsWalk}
 use Rattle.pami_method.specs.Phases.{start_refused, starting_state, switch_refused, switched_state, Record, in_boxes, on_form, Answer, Optimal, DualInfeasible, Limit, Overflow, IsAnswer, IsEarlyAnswer, IsPhaseOne, IsSwitch, IsRun, refused_start, in_phase_two, refused_boxes, in_phase_one, dual_infeasible, refused_switch, in_both}
 use Rattle.pami_method.proofs.Walks.{EndsAtBasis, walk_only, walk_ends_at_basis}
 
@@ -21,7 +23,7 @@ Gives wanted found r a = (r ≡ wanted) × (a ≡ found)
 -- behind the switch to the basis b
 abbrev FromSwitch : Form → Options → List Major → State → Basis → Option Refused → Record → Answer → Type 0
 FromSwitch f o majors st b (Some refused) r a =
-    Gives (record { phase_one = in_boxes f majors; phase_two = on_form f (switched_state f b st.count) [] }) (Overflow (record { spot = Switch; refused = refused })) r a
+    Gives (record { phase_one = in_boxes f majors; phase_two = on_form f (switched_state f b st.count) [] }) (Overflow (record { task = Switch; refused = refused })) r a
 FromSwitch f o majors st b None r a =
     (later : List Major) × (end : WalkEnd) × IsWalk f o (length majors + 1) Full (switched_state f b st.count) later end × IsAnswer f end a
     × (r ≡ record { phase_one = in_boxes f majors; phase_two = on_form f (switched_state f b st.count) later })
@@ -45,7 +47,7 @@ FromEnd f o majors (WalkOverflow refused) r a = Gives (record { phase_one = in_b
 
 -- the boxes, by their start
 abbrev FromBoxes : Form → Options → Option Refused → Record → Answer → Type 0
-FromBoxes f o (Some refused) r a = Gives (record { phase_one = in_boxes f []; phase_two = None }) (Overflow (record { spot = Start; refused = refused })) r a
+FromBoxes f o (Some refused) r a = Gives (record { phase_one = in_boxes f []; phase_two = None }) (Overflow (record { task = Start; refused = refused })) r a
 FromBoxes f o None r a = (majors : List Major) × (end : WalkEnd) × IsWalk (boxes_of f) o 1 Full (starting_state (boxes_of f)) majors end × FromEnd f o majors end r a
 
 abbrev InBoxes : Form → Options → Record → Answer → Type 0
@@ -57,7 +59,7 @@ OnForm f o r a = (majors : List Major) × (end : WalkEnd) × IsWalk f o 1 Full (
 
 -- the whole, by its start
 abbrev FromStart : Form → Options → Option Refused → Record → Answer → Type 0
-FromStart f o (Some refused) r a = Gives (record { phase_one = None; phase_two = None }) (Overflow (record { spot = Start; refused = refused })) r a
+FromStart f o (Some refused) r a = Gives (record { phase_one = None; phase_two = None }) (Overflow (record { task = Start; refused = refused })) r a
 FromStart f o None r a = (IsDualFeasible f (starting_basis f) × OnForm f o r a) ⊎ (¬ IsDualFeasible f (starting_basis f) × InBoxes f o r a)
 
 abbrev Tree : Form → Options → Record → Answer → Type 0
@@ -95,9 +97,9 @@ switch_tree f o majors st b t x r a h e g =
     )
 
 stopped_in_boxes : (f : Form) (o : Options) (refused : Refused) (x : Option Refused) → x ≡ Some refused
-    → FromBoxes f o x (record { phase_one = in_boxes f []; phase_two = None }) (Overflow (record { spot = Start; refused = refused }))
+    → FromBoxes f o x (record { phase_one = in_boxes f []; phase_two = None }) (Overflow (record { task = Start; refused = refused }))
 stopped_in_boxes f o refused x e =
-    subst (λ y. FromBoxes f o y (record { phase_one = in_boxes f []; phase_two = None }) (Overflow (record { spot = Start; refused = refused }))) (sym e) (refl, refl)
+    subst (λ y. FromBoxes f o y (record { phase_one = in_boxes f []; phase_two = None }) (Overflow (record { task = Start; refused = refused }))) (sym e) (refl, refl)
 
 tree : {f : Form} {o : Options} {r : Record} {a : Answer} → IsRun f o r a → Tree f o r a
 tree {f} {o} (refused_start s refused h e) = at_start f o _ _ s (Some refused) h e (refl, refl)

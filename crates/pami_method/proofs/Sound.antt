@@ -7,16 +7,20 @@ use Rattle.pami_theory.specs.Fresh.{Fresh, IsFresh, IsDualFeasible, value_at_pla
 use Rattle.pami_theory.specs.Ratio.{toward}
 use Rattle.pami_theory.specs.Choice.{infeasible_rows}
 use Rattle.pami_theory.specs.Certificate.{HoldsOptimal, HoldsInfeasible}
-use Rattle.pami_theory.specs.Violation.{Violation, violation}
+use Rattle.pami_theory.specs.declared.words.Violation.{Violation}
+use Rattle.pami_theory.specs.Violation.{violation}
 use Rattle.pami_theory.specs.Step.{Step, TakesStep, basis_after}
 use Rattle.pami_theory.proofs.Solved.{only_fresh}
 use Rattle.pami_theory.proofs.NextCosts.{step_keeps_feasible}
 use Rattle.pami_theory.proofs.NoEntering.{infeasible_without_step}
 use Rattle.pami_theory.proofs.Optimal.{optimal_solved}
 use Rattle.pami_theory.proofs.Chosen.{no_rows}
-use Rattle.pami_method.specs.Place.{RefusedAt}
+use Rattle.pami_method.specs.declared.words.Place.{Place}
 use Rattle.pami_method.specs.Batch.{Reached, Minor, Turn, AtLimit, NoRow, Stuck, Pivots, turn, IsNext, IsBatch}
-use Rattle.pami_method.specs.Walk.{Options, State, Mode, Full, Single, most, Major, IsMajor, refused_in, WalkEnd, Optimal, Limit, NoEntering, Overflow, EndsAt, After, Ends, GoesOn, refused_after, turn_after, after_by, after, GoesAfter, IsWalk}
+use Rattle.pami_method.specs.declared.words.Mode.{Mode}
+use Rattle.pami_method.specs.declared.words.Mode.TheVariants.{Full, Single}
+use Rattle.pami_method.specs.declared.words.Options.{Options}
+use Rattle.pami_method.specs.Walk.{State, most, Major, IsMajor, refused_in, WalkEnd, Optimal, Limit, NoEntering, Overflow, EndsAt, After, Ends, GoesOn, refused_after, turn_after, after_by, after, GoesAfter, IsWalk}
 use Rattle.pami_method.proofs.Turns.{pivot_takes_step}
 use Rattle.pami_method.proofs.Batches.{next_is_basis}
 use Rattle.pami_method.proofs.Stuck.{PlacesWithin, stuck_row, chosen_within, next_within}
@@ -73,7 +77,7 @@ abbrev AfterHolds : Form → (Basis → Type 0) → After → Type 0
 AfterHolds f P (Ends end) = EndHolds f P end
 AfterHolds f P (GoesOn mode st) = IsBasis f st.basis × P st.basis
 
-refused_holds : (f : Form) (P : Basis → Type 0) (m : Mode) (st : State) (r : RefusedAt) → IsBasis f st.basis → P st.basis → AfterHolds f P (refused_after m st r)
+refused_holds : (f : Form) (P : Basis → Type 0) (m : Mode) (st : State) (r : Place) → IsBasis f st.basis → P st.basis → AfterHolds f P (refused_after m st r)
 refused_holds f P Full st r b d = (b, d)
 refused_holds f P Single st r b d = tt
 
@@ -85,7 +89,7 @@ turn_holds f P o st g (Stuck d row) e h =
     infeasible_without_step f g.last.basis g.last.fresh row.place row.violation h.basis h.fresh k.0 k.1 k.2
 turn_holds f P o st g (Pivots d row s) e h = (h.basis, h.kept)
 
-after_holds : (f : Form) (P : Basis → Type 0) (o : Options) (st : State) (g : Major) (r : Option RefusedAt) → IsBasis f st.basis → P st.basis → IsSound f P g.last → AfterHolds f P (after_by f o st g r)
+after_holds : (f : Form) (P : Basis → Type 0) (o : Options) (st : State) (g : Major) (r : Option Place) → IsBasis f st.basis → P st.basis → IsSound f P g.last → AfterHolds f P (after_by f o st g r)
 after_holds f P o st g None b d h = turn_holds f P o st g (turn f o.limit g.last) refl h
 after_holds f P o st g (Some r) b d h = refused_holds f P g.mode st r b d
 

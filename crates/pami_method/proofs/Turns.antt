@@ -10,7 +10,8 @@ use Rattle.pami_linear.proofs.Units.{dot_none}
 use Rattle.pami_theory.specs.Form.{Form, limits, coefficient, zero_f}
 use Rattle.pami_theory.specs.Basis.{Basis, head_at, IsBasis}
 use Rattle.pami_theory.specs.Fresh.{Fresh, IsFresh, row_at, value_at_place}
-use Rattle.pami_theory.specs.Violation.{Violation, violation}
+use Rattle.pami_theory.specs.declared.words.Violation.{Violation}
+use Rattle.pami_theory.specs.Violation.{violation}
 use Rattle.pami_theory.specs.Order.{ordered}
 use Rattle.pami_theory.specs.Ratio.{row_entry}
 use Rattle.pami_theory.specs.Step.{Step, step_at, leaving_at, TakesStep}

@@ -15,10 +15,14 @@ use Rattle.pami_script.specs.Script.{then, each_member, add_dot, add_product, su
 use Rattle.pami_script.proofs.Scripts.{then_ok}
 use Rattle.pami_script.proofs.Members.{member_is, length_members}
 use Rattle.pami_script.proofs.Values.{add_dot_value, add_product_value, sub_product_value}
-use Rattle.pami_theory.specs.Form.{Form, Limits, limits, entry, coefficient, variables, zero_f}
+use Rattle.pami_frac.specs.declared.list.Bounds.{Bounds}
+use Rattle.pami_theory.specs.Form.{Form, limits, entry, coefficient, variables, zero_f}
 use Rattle.pami_theory.specs.Basis.{Basis, head_at}
 use Rattle.pami_theory.specs.Fresh.{Fresh, row_at, value_at_place}
-use Rattle.pami_theory.specs.Violation.{Side, Above, Below, Violation, violation, below_low, above_high}
+use Rattle.pami_theory.specs.declared.words.Side.{Side}
+use Rattle.pami_theory.specs.declared.words.Side.TheVariants.{Above, Below}
+use Rattle.pami_theory.specs.declared.words.Violation.{Violation}
+use Rattle.pami_theory.specs.Violation.{violation, below_low, above_high}
 use Rattle.pami_theory.specs.Ratio.{Leaving, turned_entry, row_entry, ratio, is_candidate}
 use Rattle.pami_theory.specs.Step.{Step, flip_change, flips_change}
 use Rattle.pami_method.specs.Scripts.{each_number, start_script, low_script, high_script, violation_script, place_script, choose_script, row_script, nonbasic_in, price_script, ratios_script, add_column, flips_script, reach_script, shift_script}
@@ -64,7 +68,7 @@ low_value (Some low) v r e = go (is_below v low) e
     go true h = amount_is Below low v r h
     go false h = cc
 
-high_value : (l : Limits) (high : Option Fraction) (v : Fraction) (r : Option Violation) → high_script high v (low_script l.low v) ≡ Ok r → r ≡ above_high high v (below_low l.low v)
+high_value : (l : Bounds) (high : Option Fraction) (v : Fraction) (r : Option Violation) → high_script high v (low_script l.low v) ≡ Ok r → r ≡ above_high high v (below_low l.low v)
 high_value l None v r e = low_value l.low v r e
 high_value l (Some high) v r e = go (is_below high v) e
   where
@@ -73,7 +77,7 @@ high_value l (Some high) v r e = go (is_below high v) e
     go true h = amount_is Above v high r h
     go false h = low_value l.low v r h
 
-pub violation_value : (l : Limits) (v : Fraction) (r : Option Violation) → violation_script l v ≡ Ok r → r ≡ violation l v
+pub violation_value : (l : Bounds) (v : Fraction) (r : Option Violation) → violation_script l v ≡ Ok r → r ≡ violation l v
 violation_value l v r e = high_value l l.high v r e
 
 abbrev pub violation_at : Form → Basis → Fresh → ℕ → Option Violation

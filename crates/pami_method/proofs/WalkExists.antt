@@ -5,9 +5,12 @@ use Rattle.pami_theory.specs.Form.{Form}
 use Rattle.pami_theory.specs.Basis.{IsBasis}
 use Rattle.pami_theory.specs.Fresh.{Fresh, IsFresh}
 use Rattle.pami_theory.specs.Choice.{InfeasibleRow, infeasible_rows, chosen}
-use Rattle.pami_method.specs.Place.{RefusedAt}
+use Rattle.pami_method.specs.declared.words.Place.{Place}
 use Rattle.pami_method.specs.Batch.{Reached, Turn, AtLimit, NoRow, Stuck, Pivots, turn}
-use Rattle.pami_method.specs.Walk.{Options, State, Mode, Full, Single, most, Major, IsMajor, refused_in, state_after, WalkEnd, Optimal, Limit, NeedsMajor, IsDue, After, Ends, GoesOn, refused_after, turn_after, after_by, after, GoesAfter, IsWalk}
+use Rattle.pami_method.specs.declared.words.Mode.{Mode}
+use Rattle.pami_method.specs.declared.words.Mode.TheVariants.{Full, Single}
+use Rattle.pami_method.specs.declared.words.Options.{Options}
+use Rattle.pami_method.specs.Walk.{State, most, Major, IsMajor, refused_in, state_after, WalkEnd, Optimal, Limit, NeedsMajor, IsDue, After, Ends, GoesOn, refused_after, turn_after, after_by, after, GoesAfter, IsWalk}
 use Rattle.pami_method.proofs.Walks.{major_ends_fresh}
 use Rattle.pami_method.proofs.Counts.{major_within}
 use Rattle.pami_method.proofs.BatchExists.{IsStuck, has_batch, major_moves}
@@ -47,7 +50,7 @@ abbrev GoesDown : Form → Options → ℕ → After → Type 0
 GoesDown f o n (Ends end) = Unit {0}
 GoesDown f o n (GoesOn mode st) = IsReady f o st × (left o mode st < n)
 
-refused_down : (f : Form) (o : Options) (mode : Mode) (st : State) (r : RefusedAt) → IsReady f o st → GoesDown f o (left o mode st) (refused_after mode st r)
+refused_down : (f : Form) (o : Options) (mode : Mode) (st : State) (r : Place) → IsReady f o st → GoesDown f o (left o mode st) (refused_after mode st r)
 refused_down f o Full st r h = (h, omega arith)
 refused_down f o Single st r h = tt
 
@@ -73,7 +76,7 @@ turn_down f o mode st g (Stuck d row) h m k = tt
 turn_down f o mode st g (Pivots d row s) h m (inl k) = absurd k
 turn_down f o mode st g (Pivots d row s) h m (inr k) = kept_down f o mode st g h m k
 
-after_down : (f : Form) (o : Options) (mode : Mode) (st : State) (g : Major) (r : Option RefusedAt) → g.mode ≡ mode → IsReady f o st → IsMajor f o st g
+after_down : (f : Form) (o : Options) (mode : Mode) (st : State) (g : Major) (r : Option Place) → g.mode ≡ mode → IsReady f o st → IsMajor f o st g
     → (IsStuck (turn f o.limit g.last)) ⊎ (st.count < g.last.count) → GoesDown f o (left o mode st) (after_by f o st g r)
 after_down f o mode st g None e h m k = turn_down f o mode st g (turn f o.limit g.last) h m k
 after_down f o mode st g (Some r) e h m k = subst (λ (i : Mode). GoesDown f o (left o i st) (refused_after g.mode st r)) e (refused_down f o g.mode st r h)

@@ -5,9 +5,12 @@ use Rattle.pami_theory.specs.Basis.{Basis, IsBasis}
 use Rattle.pami_theory.specs.Fresh.{Fresh, IsFresh}
 use Rattle.pami_theory.specs.Choice.{infeasible_rows, chosen}
 use Rattle.pami_theory.proofs.Solved.{only_fresh}
-use Rattle.pami_method.specs.Place.{RefusedAt}
+use Rattle.pami_method.specs.declared.words.Place.{Place}
 use Rattle.pami_method.specs.Batch.{Reached, Turn, AtLimit, NoRow, Stuck, Pivots, turn, IsBatch}
-use Rattle.pami_method.specs.Walk.{Options, State, Mode, Full, Single, most, Major, IsMajor, refused_in, WalkEnd, Optimal, Limit, NoEntering, Overflow, NeedsMajor, EndsAt, IsDue, After, Ends, GoesOn, refused_after, turn_after, after_by, after, GoesAfter, IsWalk}
+use Rattle.pami_method.specs.declared.words.Mode.{Mode}
+use Rattle.pami_method.specs.declared.words.Mode.TheVariants.{Full, Single}
+use Rattle.pami_method.specs.declared.words.Options.{Options}
+use Rattle.pami_method.specs.Walk.{State, most, Major, IsMajor, refused_in, WalkEnd, Optimal, Limit, NoEntering, Overflow, NeedsMajor, EndsAt, IsDue, After, Ends, GoesOn, refused_after, turn_after, after_by, after, GoesAfter, IsWalk}
 use Rattle.pami_method.proofs.Batches.{reached_same, batch_only, batch_ends_fresh}
 
 -- ---- a major
@@ -52,7 +55,7 @@ abbrev GoesOnAtBasis : Form → After → Type 0
 GoesOnAtBasis f (Ends end) = EndsAtBasis f end
 GoesOnAtBasis f (GoesOn mode st) = IsBasis f st.basis
 
-refused_keeps : (f : Form) (m : Mode) (st : State) (r : RefusedAt) → IsBasis f st.basis → GoesOnAtBasis f (refused_after m st r)
+refused_keeps : (f : Form) (m : Mode) (st : State) (r : Place) → IsBasis f st.basis → GoesOnAtBasis f (refused_after m st r)
 refused_keeps f Full st r b = b
 refused_keeps f Single st r b = tt
 
@@ -62,7 +65,7 @@ turn_keeps f o st g (NoRow d) b = b
 turn_keeps f o st g (Stuck d r) b = tt
 turn_keeps f o st g (Pivots d r s) b = b
 
-after_keeps_by : (f : Form) (o : Options) (st : State) (g : Major) (r : Option RefusedAt) → IsBasis f st.basis → IsBasis f g.last.basis → GoesOnAtBasis f (after_by f o st g r)
+after_keeps_by : (f : Form) (o : Options) (st : State) (g : Major) (r : Option Place) → IsBasis f st.basis → IsBasis f g.last.basis → GoesOnAtBasis f (after_by f o st g r)
 after_keeps_by f o st g None b l = turn_keeps f o st g (turn f o.limit g.last) l
 after_keeps_by f o st g (Some r) b l = refused_keeps f g.mode st r b
 

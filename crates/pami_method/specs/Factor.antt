@@ -9,7 +9,8 @@ use Rattle.pami_factoring.specs.declared.kept.LuFault.TheVariants.{Singular, Ref
 use Rattle.pami_factoring.specs.Factor.{elimination_script}
 use Rattle.pami_factoring.specs.Solve.{ColumnPivot}
 use Rattle.pami_theory.specs.Form.{Form, coefficient}
-use Rattle.pami_method.specs.Place.{Spot, Task, refusal}
+use Rattle.pami_method.specs.Task.{Task, refusal}
+use Rattle.pami_method.specs.declared.words.Spot.{Spot}
 
 -- the head at the last elimination, and the pivots since, the first one first
 pub record History : Type 0 where

@@ -1,4 +1,4 @@
-pub mod Place
+pub mod Task
 pub mod Factor
 pub mod Scripts
 pub mod Batch
@@ -6,7 +6,3 @@ pub mod Work
 pub mod OneRow
 pub mod Walk
 pub mod Phases
-pub mod ExampleWords
-pub mod BlendingExample
-pub mod SmallExamples
-pub mod PhaseExamples

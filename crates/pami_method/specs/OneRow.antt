@@ -4,7 +4,8 @@ use Rattle.pami_factoring.specs.Solve.{forward_script}
 use Rattle.pami_theory.specs.Form.{Form}
 use Rattle.pami_theory.specs.Step.{Step}
 use Rattle.pami_theory.specs.Choice.{InfeasibleRow, infeasible_at}
-use Rattle.pami_method.specs.Place.{Choose, Column, Values, Task, task}
+use Rattle.pami_method.specs.Task.{Task, task}
+use Rattle.pami_method.specs.declared.words.Spot.TheVariants.{Choose, Column, Values}
 use Rattle.pami_method.specs.Factor.{History, solve_task}
 use Rattle.pami_method.specs.Scripts.{choose_script}
 use Rattle.pami_method.specs.Batch.{Reached, Minor}

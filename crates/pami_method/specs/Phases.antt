@@ -11,13 +11,18 @@ use Rattle.pami_factoring.specs.Solve.{forward_script}
 use Rattle.pami_theory.specs.Form.{Form, variables, coefficient}
 use Rattle.pami_theory.specs.Basis.{Basis, stand_at}
 use Rattle.pami_theory.specs.Fresh.{Fresh, IsFresh, IsDualFeasible}
-use Rattle.pami_theory.specs.Violation.{Side, Above, Below}
+use Rattle.pami_theory.specs.declared.words.Side.{Side}
+use Rattle.pami_theory.specs.declared.words.Side.TheVariants.{Above, Below}
 use Rattle.pami_theory.specs.Start.{starting_basis}
 use Rattle.pami_theory.specs.Boxes.{boxes_of, CanBeDualFeasible, switched_basis}
-use Rattle.pami_method.specs.Place.{Start, Switch, RefusedAt, refusal}
+use Rattle.pami_method.specs.Task.{refusal}
+use Rattle.pami_method.specs.declared.words.Place.{Place}
+use Rattle.pami_method.specs.declared.words.Spot.TheVariants.{Start, Switch}
 use Rattle.pami_method.specs.Factor.{elimination, unfit, refusal_by}
 use Rattle.pami_method.specs.Scripts.{start_script, zeros, is_nonbasic}
-use Rattle.pami_method.specs.Walk.{Options, State, Full, Major, WalkEnd, Optimal as WalkOptimal, Limit as WalkLimit, NoEntering, Overflow as WalkOverflow, IsWalk}
+use Rattle.pami_method.specs.declared.words.Mode.TheVariants.{Full}
+use Rattle.pami_method.specs.declared.words.Options.{Options}
+use Rattle.pami_method.specs.Walk.{State, Major, WalkEnd, Optimal as WalkOptimal, Limit as WalkLimit, NoEntering, Overflow as WalkOverflow, IsWalk}
 
 -- ---- the start
 
@@ -80,7 +85,7 @@ pub data Answer : Type 0 where
   -- the values of phase one, by variable, with its last state
   DualInfeasible : State → Fresh → Answer
   Limit : State → Answer
-  Overflow : RefusedAt → Answer
+  Overflow : Place → Answer
 
 -- the ray of a row without an entering variable, by row
 abbrev pub ray : Side → List Fraction → List Fraction
@@ -121,7 +126,7 @@ pub data IsRun (f : Form) (o : Options) : Record → Answer → Type 0 where
   -- the starting values don't fit
   refused_start : (s : Fresh) (refused : Refused) →
       IsFresh f (starting_basis f) s → start_refused f s ≡ Some refused →
-      IsRun f o (record { phase_one = None; phase_two = None }) (Overflow (record { spot = Start; refused = refused }))
+      IsRun f o (record { phase_one = None; phase_two = None }) (Overflow (record { task = Start; refused = refused }))
   -- the starting basis is dual feasible
   in_phase_two : (s : Fresh) (majors : List Major) (end : WalkEnd) (answer : Answer) →
       IsFresh f (starting_basis f) s → start_refused f s ≡ None → IsDualFeasible f (starting_basis f) →
@@ -131,7 +136,7 @@ pub data IsRun (f : Form) (o : Options) : Record → Answer → Type 0 where
   refused_boxes : (s t : Fresh) (refused : Refused) →
       IsFresh f (starting_basis f) s → start_refused f s ≡ None → ¬ IsDualFeasible f (starting_basis f) →
       IsFresh (boxes_of f) (starting_basis (boxes_of f)) t → start_refused (boxes_of f) t ≡ Some refused →
-      IsRun f o (record { phase_one = in_boxes f []; phase_two = None }) (Overflow (record { spot = Start; refused = refused }))
+      IsRun f o (record { phase_one = in_boxes f []; phase_two = None }) (Overflow (record { task = Start; refused = refused }))
   -- phase one meets the limit or an overflow
   in_phase_one : (s : Fresh) (majors : List Major) (end : WalkEnd) (answer : Answer) →
       IsFresh f (starting_basis f) s → start_refused f s ≡ None → ¬ IsDualFeasible f (starting_basis f) →
@@ -146,7 +151,7 @@ pub data IsRun (f : Form) (o : Options) : Record → Answer → Type 0 where
   refused_switch : (s : Fresh) (majors : List Major) (st : State) (b : Basis) (t : Fresh) (refused : Refused) →
       IsFresh f (starting_basis f) s → start_refused f s ≡ None → ¬ IsDualFeasible f (starting_basis f) →
       IsPhaseOne f o majors (WalkOptimal st) → IsSwitch f st b t → switch_refused f b t ≡ Some refused →
-      IsRun f o (record { phase_one = in_boxes f majors; phase_two = on_form f (switched_state f b st.count) [] }) (Overflow (record { spot = Switch; refused = refused }))
+      IsRun f o (record { phase_one = in_boxes f majors; phase_two = on_form f (switched_state f b st.count) [] }) (Overflow (record { task = Switch; refused = refused }))
   -- both phases
   in_both : (s : Fresh) (majors : List Major) (st : State) (b : Basis) (t : Fresh) (later : List Major) (end : WalkEnd) (answer : Answer) →
       IsFresh f (starting_basis f) s → start_refused f s ≡ None → ¬ IsDualFeasible f (starting_basis f) →

@@ -8,10 +8,15 @@ use Rattle.pami_frac.specs.Arithmetic.{sub_outcome, mul_outcome, div_outcome}
 use Rattle.pami_frac.specs.declared.arithmetic.Refused.{Refused}
 use Rattle.pami_linear.specs.Lists.{get}
 use Rattle.pami_script.specs.Script.{then, each_member, add_product, sub_product, add_dot}
-use Rattle.pami_theory.specs.Form.{Form, Limits, entry, limits, coefficient, variables, zero_f}
-use Rattle.pami_theory.specs.Basis.{Stand, Basic, Lower, Upper, Zero, Basis, head_at, stand_at}
+use Rattle.pami_frac.specs.declared.list.Bounds.{Bounds}
+use Rattle.pami_theory.specs.Form.{Form, entry, limits, coefficient, variables, zero_f}
+use Rattle.pami_theory.specs.declared.words.Stand.{Stand}
+use Rattle.pami_theory.specs.declared.words.Stand.TheVariants.{Basic, Lower, Upper, Zero}
+use Rattle.pami_theory.specs.Basis.{Basis, head_at, stand_at}
 use Rattle.pami_theory.specs.Fresh.{Fresh, row_at, value_at_place}
-use Rattle.pami_theory.specs.Violation.{Above, Below, Violation, passed_bound, width}
+use Rattle.pami_theory.specs.declared.words.Side.TheVariants.{Above, Below}
+use Rattle.pami_theory.specs.declared.words.Violation.{Violation}
+use Rattle.pami_theory.specs.Violation.{passed_bound, width}
 use Rattle.pami_theory.specs.Ratio.{Leaving, turned_entry, row_entry, absolute, is_candidate, walk_order}
 use Rattle.pami_theory.specs.Step.{Step, is_among, flip_change, flips_change}
 use Rattle.pami_theory.specs.Weights.{lesser}
@@ -43,7 +48,7 @@ high_script (Some high) value otherwise =
     cond (is_below high value) (then (sub_outcome value high) (λ amount. Ok (Some (record { side = Above; amount = amount })))) otherwise
 
 -- how far a value is outside
-abbrev pub violation_script : Limits → Fraction → Result (Option Violation) Refused
+abbrev pub violation_script : Bounds → Fraction → Result (Option Violation) Refused
 violation_script l value = high_script l.high value (low_script l.low value)
 
 -- the variable at a place

@@ -4,26 +4,32 @@ use Rattle.pami_algebra.specs.Fraction.{Fraction}
 use Rattle.pami_theory.specs.Form.{Form}
 use Rattle.pami_theory.specs.Basis.{Basis}
 use Rattle.pami_theory.specs.Fresh.{Fresh, IsFresh, row_at}
-use Rattle.pami_theory.specs.Violation.{Side}
+use Rattle.pami_theory.specs.declared.words.Side.{Side}
 use Rattle.pami_theory.specs.Choice.{infeasible_rows, chosen}
-use Rattle.pami_method.specs.Place.{RefusedAt}
+use Rattle.pami_method.specs.declared.words.Mode.{Mode}
+use Rattle.pami_method.specs.declared.words.Mode.TheVariants.{Full, Single}
+use Rattle.pami_method.specs.declared.words.Options.{Options}
+use Rattle.pami_method.specs.declared.words.Place.{Place}
 use Rattle.pami_method.specs.Factor.{History, is_worn}
 use Rattle.pami_method.specs.Batch.{Reached, Minor, Turn, AtLimit, NoRow, Stuck, Pivots, turn, IsBatch}
 use Rattle.pami_method.specs.Work.{work, first_refused, pivot_of}
 
--- at most `batch` rows in a Full major, a new elimination where the factor has more than `refactor` pivots, at most `limit`
--- pivots
-pub record Options : Type 0 where
-  pub batch : ℕ
-  pub refactor : ℕ
-  pub limit : ℕ
+-- the most rows of a batch, the most pivots that a factor is kept for, and the most pivots that may be allowed
+abbrev pub greatest_batch : ℕ
+greatest_batch = 8
+
+abbrev pub greatest_refactor : ℕ
+greatest_refactor = 64
+
+abbrev pub greatest_limit : ℕ
+greatest_limit = 1000000
 
 -- the options in their ranges
 pub record IsOptions (o : Options) : Type 0 where
   pub some_row : 1 ≤ o.batch
-  pub batch : o.batch ≤ 8
-  pub refactor : o.refactor ≤ 64
-  pub limit : o.limit ≤ 1000000
+  pub batch : o.batch ≤ greatest_batch
+  pub refactor : o.refactor ≤ greatest_refactor
+  pub limit : o.limit ≤ greatest_limit
 
 -- between two majors: a basis, the weights by place, the kept pivots, and the factor's history where there is a factor
 pub record State : Type 0 where
@@ -31,11 +37,6 @@ pub record State : Type 0 where
   pub weights : List ℕ
   pub count : ℕ
   pub history : Option History
-
--- Full works on a whole batch, Single on one row with a new elimination
-pub data Mode : Type 0 where
-  Full : Mode
-  Single : Mode
 
 abbrev pub most : Options → Mode → ℕ
 most o Full = o.batch
@@ -74,7 +75,7 @@ abbrev pub history_of : Options → State → Major → History
 history_of o st g = history_by (eliminates_anew o g.mode st.history) st.basis st.history
 
 -- the first operation of the major's scripts that doesn't fit
-abbrev pub refused_in : Form → Options → State → Major → Option RefusedAt
+abbrev pub refused_in : Form → Options → State → Major → Option Place
 refused_in f o st g = first_refused (work f o.limit (history_of o st g) (eliminates_anew o g.mode st.history) g.first g.minors g.last)
 
 -- the state behind a major that is kept
@@ -93,7 +94,7 @@ pub data WalkEnd : Type 0 where
   Limit : State → WalkEnd
   -- the row has no entering variable; `row` is its place's row of the inverse then, by row
   NoEntering : (place : ℕ) → Side → (row : List Fraction) → WalkEnd
-  Overflow : RefusedAt → WalkEnd
+  Overflow : Place → WalkEnd
 
 -- some place is infeasible at these values
 abbrev pub NeedsMajor : Form → State → Fresh → Type 0
@@ -120,7 +121,7 @@ pub data After : Type 0 where
   Ends : WalkEnd → After
   GoesOn : Mode → State → After
 
-abbrev pub refused_after : Mode → State → RefusedAt → After
+abbrev pub refused_after : Mode → State → Place → After
 refused_after Full st refused = GoesOn Single st
 refused_after Single st refused = Ends (Overflow refused)
 
@@ -130,7 +131,7 @@ turn_after o st g (NoRow dropped) = GoesOn Full (state_after o st g)
 turn_after o st g (Stuck dropped row) = Ends (NoEntering row.place row.violation.side (row_at g.last.fresh row.place))
 turn_after o st g (Pivots dropped row step) = GoesOn Full (state_after o st g)
 
-abbrev pub after_by : Form → Options → State → Major → Option RefusedAt → After
+abbrev pub after_by : Form → Options → State → Major → Option Place → After
 after_by f o st g (Some refused) = refused_after g.mode st refused
 after_by f o st g None = turn_after o st g (turn f o.limit g.last)
 

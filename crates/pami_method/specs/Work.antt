@@ -16,7 +16,10 @@ use Rattle.pami_theory.specs.Violation.{passed_bound}
 use Rattle.pami_theory.specs.Ratio.{Leaving}
 use Rattle.pami_theory.specs.Step.{leaving_at, flips_change, theta}
 use Rattle.pami_theory.specs.Choice.{InfeasibleRow}
-use Rattle.pami_method.specs.Place.{Spot, Choose, Factor, Backward, Row, Price, Ratio, Step as StepSpot, Reach, Shift, Column, Flips, Transform, Values, Task, RefusedAt, task}
+use Rattle.pami_method.specs.Task.{Task, task}
+use Rattle.pami_method.specs.declared.words.Place.{Place}
+use Rattle.pami_method.specs.declared.words.Spot.{Spot}
+use Rattle.pami_method.specs.declared.words.Spot.TheVariants.{Choose, Factor, Backward, Row, Price, Ratio, Step as StepSpot, Reach, Shift, Column, Flips, Transform, Values}
 use Rattle.pami_method.specs.Factor.{History, elimination, unfit, solve_task}
 use Rattle.pami_method.specs.Scripts as Scripts
 use Rattle.pami_method.specs.Batch.{Reached, Minor, Turn, AtLimit, NoRow, Stuck, Pivots, turn, staying, places}
@@ -168,11 +171,11 @@ later_tasks f limit h first ms last =
 abbrev pub work : Form → ℕ → History → Bool → Reached → List Minor → Reached → List Task
 work f limit h anew first ms last = before_tasks f h anew first ++ later_tasks f limit h first ms last
 
-abbrev pub refused_or : Option Refused → Spot → Option RefusedAt → Option RefusedAt
-refused_or (Some refused) spot later = Some (record { spot = spot; refused = refused })
+abbrev pub refused_or : Option Refused → Spot → Option Place → Option Place
+refused_or (Some refused) spot later = Some (record { task = spot; refused = refused })
 refused_or None spot later = later
 
 -- the first operation of a list of scripts that doesn't fit, with its script
-abbrev pub first_refused : List Task → Option RefusedAt
+abbrev pub first_refused : List Task → Option Place
 first_refused [] = None
 first_refused (t ∷ ts) = refused_or t.refusal t.spot (first_refused ts)

@@ -5,9 +5,10 @@ ghost use Rattle.pami_algebra.specs.Fraction.{Fraction};
 ghost use Rattle.pami_linear.specs.Lists.{get};
 ghost use Rattle.pami_theory.specs.Form.{Form, limits, variables, IsUncrossed};
 ghost use Rattle.pami_theory.specs.Fresh.{Fresh};
-ghost use Rattle.pami_theory.specs.Violation.{Side};
+ghost use Rattle.pami_theory.specs.declared.words.Side.{Side};
 ghost use Rattle.pami_theory.specs.Certificate.{HoldsOptimal, HoldsInfeasible, HoldsDualInfeasible};
-ghost use Rattle.pami_method.specs.Walk.{Options, State, Major, NoEntering};
+ghost use Rattle.pami_method.specs.declared.words.Options.{Options};
+ghost use Rattle.pami_method.specs.Walk.{State, Major, NoEntering};
 ghost use Rattle.pami_method.specs.Phases.{Record, Optimal, Infeasible, DualInfeasible, IsPhaseOne, IsRun};
 
 /// Each answer of a run but a limit and an overflow has its certificate: the values and reduced costs of an optimal one,

@@ -5,7 +5,9 @@ ghost use Rattle.pami_theory.specs.Form.{Form};
 ghost use Rattle.pami_theory.specs.Basis.{IsBasis};
 ghost use Rattle.pami_theory.specs.Fresh.{Fresh, IsFresh};
 ghost use Rattle.pami_method.specs.Batch.{Reached, Minor, IsBatch};
-ghost use Rattle.pami_method.specs.Walk.{Options, State, Mode, Major, WalkEnd, IsWalk};
+ghost use Rattle.pami_method.specs.declared.words.Mode.{Mode};
+ghost use Rattle.pami_method.specs.declared.words.Options.{Options};
+ghost use Rattle.pami_method.specs.Walk.{State, Major, WalkEnd, IsWalk};
 ghost use Rattle.pami_method.specs.Phases.{Record, Answer, IsRun};
 
 /// Two runs of one form with the same options have the same record and the same answer.

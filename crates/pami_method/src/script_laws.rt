@@ -6,10 +6,12 @@ ghost use Rattle.pami_algebra.specs.Fraction.{Fraction};
 ghost use Rattle.pami_algebra.specs.Operations.{◌+ᶠ◌, ◌-ᶠ◌, ◌*ᶠ◌, ◌/ᶠ◌};
 ghost use Rattle.pami_linear.specs.Lists.{get};
 ghost use Rattle.pami_linear.specs.Sums.{dot};
-ghost use Rattle.pami_theory.specs.Form.{Form, Limits, limits, entry, variables};
+ghost use Rattle.pami_frac.specs.declared.list.Bounds.{Bounds};
+ghost use Rattle.pami_theory.specs.Form.{Form, limits, entry, variables};
 ghost use Rattle.pami_theory.specs.Basis.{Basis, head_at};
 ghost use Rattle.pami_theory.specs.Fresh.{Fresh, row_at, value_at_place};
-ghost use Rattle.pami_theory.specs.Violation.{Violation, violation};
+ghost use Rattle.pami_theory.specs.declared.words.Violation.{Violation};
+ghost use Rattle.pami_theory.specs.Violation.{violation};
 ghost use Rattle.pami_theory.specs.Ratio.{Leaving, turned_entry, row_entry, ratio, is_candidate};
 ghost use Rattle.pami_theory.specs.Step.{Step, step_at, flips_change, theta};
 ghost use Rattle.pami_method.specs.Scripts.{start_script, violation_script, choose_script, row_script, nonbasic_in, price_script, ratios_script, flips_script, ascending, step_script, reach_script, shift_script};
@@ -22,7 +24,7 @@ pub fn the_start_has_the_sums_of_rows()
 
 /// How far values are outside of their bounds: one value, all places, and the places that are looked at.
 pub fn choice_has_the_violations()
-    ensures one { (l : Limits) (value : Fraction) (found : Option Violation) → violation_script l value ≡ Ok found → found ≡ violation l value }
+    ensures one { (l : Bounds) (value : Fraction) (found : Option Violation) → violation_script l value ≡ Ok found → found ≡ violation l value }
     ensures all { (f : Form) (b : Basis) (s : Fresh) (found : List (Option Violation)) → choose_script f b s ≡ Ok found
         → found ≡ map (λ p. violation (limits f (head_at b p)) (value_at_place b s p)) (range_with_len 0 f.rows) }
     ensures some { (f : Form) (b : Basis) (s : Fresh) (places : List ℕ) (found : List (Option Violation)) → row_script f b s places ≡ Ok found

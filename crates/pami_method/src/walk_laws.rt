@@ -5,7 +5,9 @@ ghost use Rattle.std.specs.List.{All};
 ghost use Rattle.pami_theory.specs.Form.{Form};
 ghost use Rattle.pami_theory.specs.Basis.{IsBasis};
 ghost use Rattle.pami_theory.specs.Fresh.{IsFresh};
-ghost use Rattle.pami_method.specs.Walk.{Options, State, Mode, Major, IsMajor, WalkEnd, Optimal, Limit, IsWalk};
+ghost use Rattle.pami_method.specs.declared.words.Mode.{Mode};
+ghost use Rattle.pami_method.specs.declared.words.Options.{Options};
+ghost use Rattle.pami_method.specs.Walk.{State, Major, IsMajor, WalkEnd, Optimal, Limit, IsWalk};
 
 /// A state that stands at a basis has one major of a number and a mode, and what it begins with is determined by the mode.
 pub fn majors_are_determined()

@@ -1,3 +1,5 @@
+pub mod Judging
+pub mod FirstFaults
 pub mod Tables
 pub mod Changed
 pub mod Kept

@@ -1,11 +1,12 @@
 -- Tables of names: what a map with vectors as keys holds, as the lists of a draft.
-use Rattle.std.proofs.Common.{◌≡◌, ◌+◌, ◌≤◌, ◌<◌, ℕ, suc, Bool, true, false, true≢false, cond, not, eqb, List, [], ◌∷◌, ◌++◌, map, length, nat_lt, Option, None, Some, is_some, refl, sym, ap, ◌∙◌}
+use Rattle.std.proofs.Common.{◌≡◌, ◌+◌, ◌≤◌, ◌<◌, ℕ, suc, Bool, true, false, true≢false, cond, not, eqb, List, [], ◌∷◌, ◌++◌, map, length, nat_lt, None, Some, is_some, refl, sym, ap, ◌∙◌}
 use Rattle.std.proofs.lemmas.List.{length-map}
 use borrow.Author.Tests.{ltb-false, ltb-true}
 use Rattle.std.specs.Map.{lookup}
 use Rattle.indexmap.specs.IndexMap.{insert_entry}
 use Rattle.std.specs.Global.{Vec}
 use Rattle.std.specs.List.{position_or_len, position}
+use Rattle.std.specs.Option.{option_map}
 use Rattle.std.specs.Str.{bytes_eq}
 use Rattle.std.specs.Cmp.Lexicographic.{pointwise}
 use Rattle.pami_frac.specs.declared.list.Bounds.{Bounds}
@@ -15,8 +16,10 @@ use Rattle.pami_model.specs.declared.builder.Side.TheVariants as sides
 use Rattle.pami_model.specs.declared.fault.BuildFault.TheVariants as faults
 use Rattle.pami_model.specs.declared.fault.What.TheVariants as what
 use Rattle.pami_model.specs.Rules.{names_of_rows, names_of_columns, name_limit, row_limit, column_limit}
-use Rattle.pami_model.specs.Draft.{Draft, place_of, first_of, duplicate, row_fault, column_fault}
+use Rattle.pami_model.specs.Judgement.{first_of, wrong_if}
+use Rattle.pami_model.specs.Draft.{Draft, place_of, row_fault, column_fault}
 use Rattle.pami_model.specs.Build.{rows_of, columns_of, names_of, named, name_fault, duplicate_on, too_many_on, limit_on}
+use Rattle.pami_model.proofs.Judging.{both_none, unset}
 
 pub names_of-rows : (es : List (Vec ℕ × Bounds)) → names_of_rows (rows_of es) ≡ names_of es
 names_of-rows [] = refl
@@ -64,9 +67,6 @@ named-insert {V = V} k v (e ∷ es) none = by (pointwise eqb k.items e.0.items) 
 
 -- the faults of names, one rule at a time
 module _ (side : Side) (names : List (List ℕ)) (name : List ℕ) where
-  pub name_fault-long : nat_lt name_limit (length name) ≡ true → name_fault side names name ≡ Some faults.NameTooLong
-  name_fault-long e = rw e refl
-
   pub name_fault-there : (i : ℕ) → nat_lt name_limit (length name) ≡ false → place_of name names ≡ Some i → name_fault side names name ≡ Some (duplicate_on side i)
   name_fault-there i e f = rw (e, f) refl
 
@@ -77,40 +77,33 @@ module _ (side : Side) (names : List (List ℕ)) (name : List ℕ) where
   name_fault-none e f g = rw (e, f, g) refl
 
 -- what no fault says
-pub first_of-none : {E : Type 0} (b : Bool) (fault : E) (rest : Option E) → first_of b fault rest ≡ None → (b ≡ false) × (rest ≡ None)
-first_of-none true fault rest h = absurd cc
-first_of-none false fault rest h = (refl, h)
-
-pub duplicate-none : {E : Type 0} (fault : ℕ → E) (o : Option ℕ) (rest : Option E) → duplicate fault o rest ≡ None → (o ≡ None) × (rest ≡ None)
-duplicate-none fault None rest h = (refl, h)
-duplicate-none fault (Some i) rest h = absurd cc
-
 not-false : (b : Bool) → not b ≡ false → b ≡ true
 not-false true h = refl
 not-false false h = absurd (true≢false h)
 
 pub name_fault-short : (side : Side) (names : List (List ℕ)) (name : List ℕ) → name_fault side names name ≡ None → length name ≤ name_limit
-name_fault-short side names name h = ltb-false _ _ (first_of-none _ _ _ h).0
+name_fault-short side names name h =
+    ltb-false _ _ (unset (nat_lt name_limit (length name)) faults.NameTooLong (both_none (wrong_if (nat_lt name_limit (length name)) faults.NameTooLong) _ h).0)
 
 pub name_fault-room : (side : Side) (names : List (List ℕ)) (name : List ℕ) → name_fault side names name ≡ None → length names < limit_on side
 name_fault-room side names name h =
-    let second = (first_of-none (nat_lt name_limit (length name)) _ _ h).1 in
-    let third = (duplicate-none _ (place_of name names) _ second).1 in
-    ltb-true _ _ (not-false _ (first_of-none (not (nat_lt (length names) (limit_on side))) _ None third).0)
+    let second = (both_none (wrong_if (nat_lt name_limit (length name)) faults.NameTooLong) _ h).1 in
+    let third = (both_none (option_map (λ earlier. duplicate_on side earlier) (place_of name names)) _ second).1 in
+    ltb-true _ _ (not-false _ (unset (not (nat_lt (length names) (limit_on side))) (too_many_on side) third))
 
 -- a draft's faults are those of its tables
 pub row_fault-names : (d : Draft) (es : List (Vec ℕ × Bounds)) (name : List ℕ) → rows_of es ≡ d.rows → name_fault sides.Row (names_of es) name ≡ row_fault d name
 row_fault-names d es name same =
     let e : names_of es ≡ names_of_rows d.rows = sym (names_of-rows es) ∙ ap names_of_rows same in
     let f : length (names_of es) ≡ length d.rows = ap length e ∙ length-map d.rows _ in
-    λ i. first_of (nat_lt name_limit (length name)) faults.NameTooLong
-    (duplicate (λ earlier. faults.DuplicateRow earlier) (place_of name (e i))
-    (first_of (not (nat_lt (f i) row_limit)) (faults.TooMany what.Rows row_limit) None))
+    λ i. first_of (wrong_if (nat_lt name_limit (length name)) faults.NameTooLong)
+    (first_of (option_map (λ earlier. faults.DuplicateRow earlier) (place_of name (e i)))
+    (wrong_if (not (nat_lt (f i) row_limit)) (faults.TooMany what.Rows row_limit)))
 
 pub column_fault-names : (d : Draft) (es : List (Vec ℕ × Building)) (name : List ℕ) → columns_of es ≡ d.columns → name_fault sides.Column (names_of es) name ≡ column_fault d name
 column_fault-names d es name same =
     let e : names_of es ≡ names_of_columns d.columns = sym (names_of-columns es) ∙ ap names_of_columns same in
     let f : length (names_of es) ≡ length d.columns = ap length e ∙ length-map d.columns _ in
-    λ i. first_of (nat_lt name_limit (length name)) faults.NameTooLong
-    (duplicate (λ earlier. faults.DuplicateColumn earlier) (place_of name (e i))
-    (first_of (not (nat_lt (f i) column_limit)) (faults.TooMany what.Columns column_limit) None))
+    λ i. first_of (wrong_if (nat_lt name_limit (length name)) faults.NameTooLong)
+    (first_of (option_map (λ earlier. faults.DuplicateColumn earlier) (place_of name (e i)))
+    (wrong_if (not (nat_lt (f i) column_limit)) (faults.TooMany what.Columns column_limit)))

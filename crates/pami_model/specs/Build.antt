@@ -1,7 +1,8 @@
 -- What a builder keeps, and how its tables are the lists of a draft.
-use Rattle.std.specs.Prelude.{◌≡◌, ◌≢◌, ℕ, ◌≤◌, ◌<◌, suc, not, nat_lt, Option, None, List, [], ◌∷◌, length, map, All, true}
+use Rattle.std.specs.Prelude.{◌≡◌, ◌≢◌, ℕ, ◌≤◌, ◌<◌, suc, not, nat_lt, Option, List, [], ◌∷◌, length, map, All, true}
 use Rattle.std.specs.Global.{Vec}
 use Rattle.std.specs.List.{list_any}
+use Rattle.std.specs.Option.{option_map}
 use lib.IntN.{pos}
 use Rattle.pami_algebra.specs.Operations.{of_int}
 use Rattle.pami_frac.specs.declared.list.Bounds.{Bounds}
@@ -15,7 +16,8 @@ use Rattle.pami_model.specs.declared.fault.BuildFault.TheVariants as faults
 use Rattle.pami_model.specs.declared.list.Row.{Row}
 use Rattle.pami_model.specs.declared.list.Column.{Column}
 use Rattle.pami_model.specs.Rules.{stored_count, row_limit, column_limit, entry_limit, name_limit}
-use Rattle.pami_model.specs.Draft.{Draft, is_pair, place_of, first_of, duplicate, new_row}
+use Rattle.pami_model.specs.Judgement.{first_of, wrong_if}
+use Rattle.pami_model.specs.Draft.{Draft, is_pair, place_of, new_row}
 
 -- a table by the bytes of its names
 abbrev pub named : {V : Type 0} → List (Vec ℕ × V) → List (List ℕ × V)
@@ -55,9 +57,9 @@ too_many_on sides.Column = faults.TooMany what.Columns column_limit
 -- what a table with these names refuses
 abbrev pub name_fault : Side → List (List ℕ) → List ℕ → Option BuildFault
 name_fault side names name =
-    first_of (nat_lt name_limit (length name)) faults.NameTooLong
-    (duplicate (λ earlier. duplicate_on side earlier) (place_of name names)
-    (first_of (not (nat_lt (length names) (limit_on side))) (too_many_on side) None))
+    first_of (wrong_if (nat_lt name_limit (length name)) faults.NameTooLong)
+    (first_of (option_map (λ earlier. duplicate_on side earlier) (place_of name names))
+    (wrong_if (not (nat_lt (length names) (limit_on side))) (too_many_on side)))
 
 -- `P` of each member and its place, from `k` on
 abbrev pub AllPlaces : {A : Type 0} → (ℕ → A → Type 0) → ℕ → List A → Type 0

@@ -17,6 +17,7 @@ use Rattle.pami_model.specs.declared.fault.BuildFault.TheVariants as faults
 use Rattle.pami_model.specs.declared.list.Row.{Row}
 use Rattle.pami_model.specs.declared.list.Column.{Column}
 use Rattle.pami_model.specs.declared.model.Sense.{Sense}
+use Rattle.pami_model.specs.Judgement.{first_of, wrong_if}
 use Rattle.pami_model.specs.Rules.{names_of_rows, names_of_columns, stored_count, row_limit, column_limit, entry_limit, name_limit}
 
 -- rows and columns in the order of their adding, each column's stored entries too; and every pair of a column and a
@@ -40,28 +41,19 @@ nonnegative = record { low = Some zero; high = None }
 abbrev pub place_of : List ℕ → List (List ℕ) → Option ℕ
 place_of name names = position (bytes_eq name) names
 
--- the fault where something is wrong, and else what follows
-abbrev pub first_of : {E : Type 0} → Bool → E → Option E → Option E
-first_of {E} wrong fault rest = if wrong then Some fault else rest
-
--- the fault of an earlier one, and else what follows
-abbrev pub duplicate : {E : Type 0} → (ℕ → E) → Option ℕ → Option E → Option E
-duplicate fault (Some earlier) rest = Some (fault earlier)
-duplicate fault None rest = rest
-
 -- a name that is too long, then one that stands already, then a count at its limit
 abbrev pub row_fault : Draft → List ℕ → Option BuildFault
 row_fault d name =
-    first_of (nat_lt name_limit (length name)) faults.NameTooLong
-    (duplicate (λ earlier. faults.DuplicateRow earlier) (place_of name (names_of_rows d.rows))
-    (first_of (not (nat_lt (length d.rows) row_limit)) (faults.TooMany what.Rows row_limit) None))
+    first_of (wrong_if (nat_lt name_limit (length name)) faults.NameTooLong)
+    (first_of (option_map (λ earlier. faults.DuplicateRow earlier) (place_of name (names_of_rows d.rows)))
+    (wrong_if (not (nat_lt (length d.rows) row_limit)) (faults.TooMany what.Rows row_limit)))
 
 -- the same of columns
 abbrev pub column_fault : Draft → List ℕ → Option BuildFault
 column_fault d name =
-    first_of (nat_lt name_limit (length name)) faults.NameTooLong
-    (duplicate (λ earlier. faults.DuplicateColumn earlier) (place_of name (names_of_columns d.columns))
-    (first_of (not (nat_lt (length d.columns) column_limit)) (faults.TooMany what.Columns column_limit) None))
+    first_of (wrong_if (nat_lt name_limit (length name)) faults.NameTooLong)
+    (first_of (option_map (λ earlier. faults.DuplicateColumn earlier) (place_of name (names_of_columns d.columns)))
+    (wrong_if (not (nat_lt (length d.columns) column_limit)) (faults.TooMany what.Columns column_limit)))
 
 -- the pair of this column and this row
 abbrev pub is_pair : ℕ → ℕ → ℕ × ℕ → Bool
@@ -70,8 +62,8 @@ is_pair column row p = nat_eq column p.0 && nat_eq row p.1
 -- a pair that was taken before, then one stored entry more than the limit
 abbrev pub entry_fault : Draft → ℕ → ℕ → Fraction → Option BuildFault
 entry_fault d column row value =
-    first_of (list_any (is_pair column row) d.pairs) (faults.DuplicateEntry column row)
-    (first_of (not (is_zero value) && not (nat_lt (stored_count d.columns) entry_limit)) (faults.TooMany what.Entries entry_limit) None)
+    first_of (wrong_if (list_any (is_pair column row) d.pairs) (faults.DuplicateEntry column row))
+    (wrong_if (not (is_zero value) && not (nat_lt (stored_count d.columns) entry_limit)) (faults.TooMany what.Entries entry_limit))
 
 -- what a call adds
 

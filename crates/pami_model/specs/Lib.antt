@@ -1,4 +1,8 @@
 pub mod Rules
+pub mod Judgement
 pub mod Draft
 pub mod Build
 pub mod Contents
+pub mod Number
+pub mod Refusal
+pub mod FirstFault

@@ -8,7 +8,7 @@ use Rattle.pami_frac.specs.declared.list.Entry.{Entry}
 use Rattle.pami_model.specs.declared.list.Row.{Row}
 use Rattle.pami_model.specs.declared.list.Column.{Column}
 
--- the limits
+-- the limits of a model
 abbrev pub row_limit : ℕ
 row_limit = 256
 
@@ -20,6 +20,10 @@ entry_limit = 65536
 
 abbrev pub name_limit : ℕ
 name_limit = 255
+
+-- the most bytes that the file of a model may have
+abbrev pub byte_limit : ℕ
+byte_limit = 16777216
 
 -- each member once: two places have one member only where they are one place
 abbrev pub IsDistinct : List (List ℕ) → Type 0

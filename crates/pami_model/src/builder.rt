@@ -11,6 +11,7 @@ ghost use Rattle.pami_model.specs.Build.{IsApart, built_column, columns_of, rows
 ghost use Rattle.pami_model.specs.Draft.{changed, crossed_column, crossed_row, first_crossed, column_with_bounds, column_with_cost, empty_draft, entry_fault, finished, is_crossed, is_pair, row_with_bounds, stores, place_of, row_fault, column_fault, new_row, new_column};
 
 use crate::fault::{BuildFault, Crossed, What};
+use crate::limit::{COLUMN_LIMIT, ENTRY_LIMIT, NAME_LIMIT, ROW_LIMIT};
 use crate::list::{Column, ColumnList, EntryList, Name, Row, RowList};
 use crate::model::{Model, Sense};
 use indexmap::{IndexMap, IndexSet};
@@ -18,18 +19,6 @@ use pami_frac::{Bounds, Entry, Fault, Frac, OutOfMemory};
 use std::alloc::Global;
 use std::cmp::Ordering;
 use std::marker;
-
-/// The most rows that a model may have.
-pub const ROW_LIMIT: u32 = 256;
-
-/// The most columns that a model may have.
-pub const COLUMN_LIMIT: u32 = 4096;
-
-/// The most stored entries that a model may have.
-pub const ENTRY_LIMIT: u32 = 65536;
-
-/// The most bytes that a name may have.
-pub const NAME_LIMIT: usize = 255;
 
 /// A column whose name stands in the table of names, with its entries in the order of their adding.
 #[derive(Debug, Drop)]
@@ -389,19 +378,13 @@ impl Builder {
         ensures rows { IfOk result (λ m. m.rows ≡ self.rows) }
         ensures columns { IfOk result (λ m. m.columns ≡ map finished self.columns) }
     {
-        let rows = match finish_rows(self.alloc, self.rows) {
-            Ok(rows) => RowList::from_vec(rows),
-            Err(fault) => return Err(fault),
-        };
-        let columns = match finish_columns(self.alloc, self.columns) {
-            Ok(columns) => ColumnList::from_vec(columns),
-            Err(fault) => return Err(fault),
-        };
+        let rows = finish_rows(self.alloc, self.rows)?;
+        let columns = finish_columns(self.alloc, self.columns)?;
         Ok(Model {
             sense: self.sense,
             constant: self.constant,
-            rows,
-            columns,
+            rows: RowList::from_vec(rows),
+            columns: ColumnList::from_vec(columns),
         })
     }
 }

@@ -17,7 +17,7 @@ pub enum BuildFault {
     DuplicateColumn { earlier: u32 },
     /// The pair of this column and this row was taken before.
     DuplicateEntry { column: u32, row: u32 },
-    /// The name has more than 255 bytes.
+    /// The name has more than `NAME_LIMIT` bytes.
     NameTooLong,
     /// One more would pass the limit.
     TooMany { what: What, limit: u32 },
@@ -59,7 +59,7 @@ pub enum FileKind {
     Wide,
     /// An infinite value where none may stand.
     Infinite,
-    /// A name of more than 255 bytes.
+    /// A name of more than `NAME_LIMIT` bytes.
     NameLong,
     /// One row more than the limit.
     TooManyRows,
@@ -71,4 +71,11 @@ pub enum FileKind {
     EndMissing,
     /// More bytes than the limit.
     TooLong,
+}
+
+/// The first thing that is wrong with a model file, and its line, counted from 1.
+#[derive(Clone, Copy, Debug, PartialEq, Eq)]
+pub struct FileFault {
+    pub line: u32,
+    pub kind: FileKind,
 }

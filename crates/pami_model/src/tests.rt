@@ -1,6 +1,9 @@
-//! A builder's answers, each compared: names, entries, settings and the finished model.
+//! A builder's answers, each compared: names, entries, settings and the finished model; and what readers share.
 
-use crate::{BuildFault, Builder, Crossed, Model, Sense, What};
+use crate::{
+    BuildFault, Builder, Crossed, FileKind, Model, Sense, What, file_fault, is_infinite,
+    one_first_fault, read_number,
+};
 use pami_frac::{Bounds, Entry, Fault, Frac};
 use std::test::Fail;
 
@@ -235,5 +238,43 @@ fn first_crossed(rt: HostRuntime) -> Result<(), Fail> {
         };
         assert_eq!(rt; found, wanted);
     }
+    Ok(())
+}
+
+#[test]
+fn readers_share(rt: HostRuntime) -> Result<(), Fail> {
+    let numbers = [
+        (b"-12".as_slice(), Ok(whole(-12))),
+        (b"twelve".as_slice(), Err(Some(FileKind::Number))),
+        (b"1e40".as_slice(), Err(Some(FileKind::Wide))),
+    ];
+    for (word, wanted) in numbers {
+        assert_eq!(rt; told(read_number(word)), wanted);
+    }
+    let sizes = [
+        (100_000_000_000_000_000_000, true),
+        (-100_000_000_000_000_000_000, true),
+        (99_999_999_999_999_999_999, false),
+    ];
+    for (number, wanted) in sizes {
+        assert_eq!(rt; is_infinite(&whole(number)), wanted);
+    }
+    let full = BuildFault::TooMany {
+        what: What::Entries,
+        limit: 65536,
+    };
+    let refusals = [
+        (BuildFault::NameTooLong, FileKind::NameLong),
+        (
+            BuildFault::DuplicateRow { earlier: 3 },
+            FileKind::DuplicateRow,
+        ),
+        (full, FileKind::TooManyEntries),
+    ];
+    for (refusal, wanted) in refusals {
+        let answer: Result<(), Fault<FileKind>> = Err(file_fault(Fault::Named(refusal)));
+        assert_eq!(rt; told(answer), Err(Some(wanted)));
+    }
+    one_first_fault();
     Ok(())
 }

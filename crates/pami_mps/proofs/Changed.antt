@@ -9,7 +9,7 @@ use Rattle.std.proofs.lemmas.List.Quantifiers.{position-Some}
 use Rattle.std.proofs.lemmas.Cmp.{nat_list_eq_equiv}
 use Rattle.std.proofs.lemmas.Slice.Eq.{bytes_eq-Decides}
 use Rattle.pami_model.specs.Draft.{place_of, changed}
-use Rattle.pami_mps.proofs.Judged.{some≢none}
+use Rattle.pami_model.proofs.Judging.{some≢none}
 
 -- names that are equal
 

@@ -5,10 +5,11 @@ use Rattle.pami_frac.specs.declared.fault.Fault.{Fault}
 use Rattle.pami_frac.specs.Answers.{Follows}
 use Rattle.pami_model.specs.declared.fault.FileKind.{FileKind}
 use Rattle.pami_model.specs.declared.fault.FileKind.TheVariants as kinds
+use Rattle.pami_model.specs.Judgement.{first_of, wrong_if}
+use Rattle.pami_model.proofs.Judging.{later, sooner, first_of-assoc}
 use Rattle.pami_mps.specs.Gather.{Seen}
-use Rattle.pami_mps.specs.Good.{first_of, wrong_if, is_marker, judge_column_name, judge_pair, judge_column, with_column, with_pair}
-use Rattle.pami_mps.specs.After.{after_column}
-use Rattle.pami_mps.proofs.Judging.{later, sooner, first_of-assoc}
+use Rattle.pami_mps.specs.After.{after_column, with_column, with_pair}
+use Rattle.pami_mps.specs.Judge.{is_marker, judge_column_name, judge_pair, judge_column}
 
 module _ (s : Seen) (ws : List (List ℕ)) (c r v q w : List ℕ) where
   -- the first pair, then the second
@@ -21,7 +22,7 @@ module _ (s : Seen) (ws : List (List ℕ)) (c r v q w : List ℕ) where
       ap (first_of a) (first_of-assoc b d k) ∙ first_of-assoc a (first_of b d) k
 
   pub pair_first : (f : Fault FileKind) → ws ≡ c ∷ r ∷ v ∷ q ∷ w ∷ [] → Follows {A = Unit {0}} (judge_column s (c ∷ r ∷ v ∷ [])) (Err f) → Follows {A = Unit {0}} (judge_column s ws) (Err f)
-  pair_first f e h = subst (λ (j : Option FileKind). Follows {A = Unit {0}} j (Err f)) (sym (ap (judge_column s) e ∙ apart)) (sooner (judge_column s (c ∷ r ∷ v ∷ [])) _ f h)
+  pair_first f e h = subst (λ (j : Option FileKind). Follows {A = Unit {0}} j (Err f)) (sym (ap (judge_column s) e ∙ apart)) (sooner (Unit {0}) (judge_column s (c ∷ r ∷ v ∷ [])) _ f h)
 
   pub pair_second : (x : Result (Unit {0}) (Fault FileKind)) (mid : Seen) → ws ≡ c ∷ r ∷ v ∷ q ∷ w ∷ [] → judge_column s (c ∷ r ∷ v ∷ []) ≡ None → mid ≡ after_column s (c ∷ r ∷ v ∷ []) → Follows (judge_pair mid q w) x → Follows (judge_column s ws) x
   pair_second x mid e h m g = subst (λ (j : Option FileKind). Follows j x) (sym (ap (judge_column s) e ∙ apart))

@@ -1,24 +1,28 @@
 -- What is seen behind one more line of COLUMNS.
 use Rattle.std.proofs.Common.{◌≡◌, ◌+◌, ℕ, Bool, true, false, true≢false, cond, nat_lt, List, [], ◌∷◌, ◌++◌, map, filter, length, Option, None, Some, refl, sym, ap, subst, ◌∙◌, append_assoc, length-append, map-id, arith, ◌||◌}
 use Rattle.std.specs.List.{list_any, flat_map}
+use Rattle.std.specs.Option.{option_map}
 use Rattle.std.specs.Str.{bytes_eq}
 use Rattle.std.proofs.lemmas.Bool.{eqb-true}
 use Rattle.std.proofs.lemmas.List.{append-nil, map-append, length-map}
 use Rattle.std.proofs.lemmas.List.Concat.{flat_map-append}
 use Rattle.pami_algebra.specs.Fraction.{Fraction}
 use Rattle.pami_frac.specs.declared.list.Entry.{Entry}
+use Rattle.pami_frac.specs.Decimal.{decimal_value}
 use Rattle.pami_model.specs.declared.fault.BuildFault.{BuildFault}
 use Rattle.pami_model.specs.declared.fault.BuildFault.TheVariants as faults
 use Rattle.pami_model.specs.declared.list.Column.{Column}
 use Rattle.pami_model.specs.declared.model.Sense.TheVariants as senses
 use Rattle.pami_model.specs.Rules.{names_of_columns, name_limit}
-use Rattle.pami_model.specs.Draft as rules
-use Rattle.pami_model.specs.Draft.{Draft, new_column, nonnegative, place_of, changed, stores, is_zero, column_fault}
+use Rattle.pami_model.specs.Draft.{new_column, nonnegative, place_of, changed, stores, is_zero, column_fault}
+use Rattle.pami_model.specs.Number.{judge_number}
+use Rattle.pami_model.specs.Judgement.{first_of, wrong_if}
+use Rattle.pami_model.specs.Refusal.{judge_build}
+use Rattle.pami_model.proofs.Judging.{some≢none, both_none, unset}
 use Rattle.pami_mps.specs.declared.kind.Section.{Section}
-use Rattle.pami_mps.specs.Gather.{Seen, Declared, Pair, Value, Names, Role, Kept, Objective, Dropped, pair, pairs_in, names_by, column_names, column_of, costs_of, is_any, only_of, cost_in, entry_in, entry_as, is_objective, places_in, places_as, role_in, role_of, decimal_value, row_of, is_of, last_name, goal_values, given_for, constant_by, seen_by}
-use Rattle.pami_mps.specs.Good.{wrong_if, is_last, is_current, judge_build, judge_column_name, judge_pair, judge_role, judge_number, judge_column, is_marker, last_place, with_column, with_entry, with_pair, role_for}
-use Rattle.pami_mps.specs.After.{after_column}
-use Rattle.pami_mps.proofs.Judged.{some≢none, both_none, unset}
+use Rattle.pami_mps.specs.Gather.{Seen, Declared, Pair, Value, Names, Role, Kept, Objective, Dropped, pair, pairs_in, names_by, column_names, column_of, costs_of, is_any, only_of, cost_in, entry_in, entry_as, is_objective, places_in, places_as, role_in, role_of, row_of, is_of, last_name, goal_values, given_for, constant_by, seen_by}
+use Rattle.pami_mps.specs.After.{after_column, is_last, is_current, last_place, with_column, with_entry, with_pair, role_for}
+use Rattle.pami_mps.specs.Judge.{judge_column_name, judge_pair, judge_role, judge_column, is_marker}
 use Rattle.pami_mps.proofs.Changed.{itself, place_none, place_some, place_more, place_new, last_split, changed_last, map_missed}
 use Rattle.pami_mps.proofs.Names.{step, column_names_more, any_once, step_last, filter_other, filter_one, filter_new, rows_back, columns_back, last_name_is}
 
@@ -59,7 +63,8 @@ column_new : (names : Names) (pairs : List Pair) (c : List ℕ) → filter (is_o
 column_new names pairs c e = ap (λ (ps : List Pair). let x : Column = record { name = c; cost = only_of (flat_map (cost_in names) ps); bounds = nonnegative; entries = flat_map (entry_in names) ps } in x) e
 
 -- a name that stands already is refused
-known : (long : Bool) (o : Option ℕ) (rest : Option BuildFault) (i : ℕ) → o ≡ Some i → judge_build (rules.first_of long faults.NameTooLong (rules.duplicate (λ earlier. faults.DuplicateColumn earlier) o rest)) ≡ None → ⊥
+known : (long : Bool) (o : Option ℕ) (rest : Option BuildFault) (i : ℕ) → o ≡ Some i
+    → judge_build (first_of (wrong_if long faults.NameTooLong) (first_of (option_map (λ earlier. faults.DuplicateColumn earlier) o) rest)) ≡ None → ⊥
 known true o rest i e j = some≢none j
 known false None rest i e j = some≢none (sym e)
 known false (Some k) rest i e j = some≢none j

@@ -1,9 +1,9 @@
 pub mod Changed
 pub mod ColumnLines
 pub mod Columns
-pub mod Judged
-pub mod Judging
+pub mod Counts
 pub mod Keys
+pub mod Lines
 pub mod Names
 pub mod Places
 pub mod RowLines
@@ -14,4 +14,3 @@ pub mod ValueLines
 pub mod Values
 pub mod Whole
 pub mod Words
-pub mod Lines

@@ -11,17 +11,18 @@ use Rattle.pami_model.specs.declared.fault.FileKind.{FileKind}
 use Rattle.pami_model.specs.declared.fault.Crossed.{Crossed}
 use Rattle.pami_model.specs.Contents.{Contents}
 use Rattle.pami_model.specs.Draft.{first_crossed}
+use Rattle.pami_model.specs.Rules.{byte_limit}
+use Rattle.pami_model.proofs.Judging.{none≢some}
 use Rattle.pami_mps.specs.contracts.kind.Section.{the_type}
 use Rattle.pami_mps.specs.declared.kind.Section.{Section}
 use Rattle.pami_mps.specs.declared.kind.Section.TheVariants.{Start, Name, Rows, Columns, Rhs, End}
 use Rattle.pami_mps.specs.Line.{Line, line_of, text_lines, is_end}
 use Rattle.pami_mps.specs.Gather.{Seen, seen}
-use Rattle.pami_mps.specs.Good.{judge}
-use Rattle.pami_mps.specs.Mps.{Mps, blank, byte_limit, IsRefused}
+use Rattle.pami_mps.specs.Judge.{judge}
+use Rattle.pami_mps.specs.Mps.{Mps, blank, IsRefused}
 use Rattle.pami_mps.specs.Reader.{IsEven, IsRead}
 use Rattle.pami_mps.proofs.Whole.{So, ended_early, line_at, lines_count, stopped}
 use Rattle.pami_mps.proofs.Shaped.{shaped}
-use Rattle.pami_mps.proofs.Judging.{none≢some}
 
 -- pieces of the bytes
 

@@ -8,7 +8,8 @@ use Rattle.pami_model.specs.declared.list.Row.{Row}
 use Rattle.pami_model.specs.Draft.{place_of, changed}
 use Rattle.pami_mps.specs.declared.kind.RowKind.{RowKind}
 use Rattle.pami_mps.specs.Gather.{bounds_of}
-use Rattle.pami_mps.specs.Good.{is_given, bounds_at}
+use Rattle.pami_mps.specs.After.{bounds_at}
+use Rattle.pami_mps.specs.Judge.{is_given}
 use Rattle.pami_mps.proofs.Changed.{suc≢zero, suc-less, changed_step, place_none, place_some}
 
 -- a name stands exactly where it has a place

@@ -8,23 +8,25 @@ use Rattle.pami_frac.specs.Answers.{Follows}
 use Rattle.pami_model.specs.declared.fault.FileKind.{FileKind}
 use Rattle.pami_model.specs.declared.fault.FileKind.TheVariants as kinds
 use Rattle.pami_model.specs.declared.fault.BuildFault.{BuildFault}
-use Rattle.pami_model.specs.Rules.{names_of_rows}
+use Rattle.pami_model.specs.Rules.{names_of_rows, name_limit}
 use Rattle.pami_model.specs.Draft.{place_of, row_fault}
+use Rattle.pami_model.specs.Judgement.{first_of, wrong_if}
+use Rattle.pami_model.specs.Refusal.{judge_build, widened}
+use Rattle.pami_model.proofs.Judging.{refused_by, followed}
 use Rattle.pami_mps.specs.Gather.{Seen, role_by, free_role}
-use Rattle.pami_mps.specs.Good.{first_of, wrong_if, judge_free, judge_kept, judge_build, role_for}
-use Rattle.pami_mps.specs.Reader.{widened}
-use Rattle.pami_mps.proofs.Judging.{refused_by, followed}
+use Rattle.pami_mps.specs.After.{role_for}
+use Rattle.pami_mps.specs.Judge.{judge_free, judge_kept}
 
-module _ (s : Seen) (name : List ℕ) (short : length name ≤ 255) where
+module _ (s : Seen) (name : List ℕ) (short : length name ≤ name_limit) where
   pub free_judged : (a b : Bool) → list_any (bytes_eq name) s.free ≡ a → list_any (bytes_eq name) (names_of_rows s.draft.rows) ≡ b → judge_free s name ≡ wrong_if (a || b) kinds.DuplicateRow
   free_judged a b e f =
-      ap (λ (x : Bool). first_of (wrong_if x kinds.NameLong) (wrong_if (list_any (bytes_eq name) s.free || list_any (bytes_eq name) (names_of_rows s.draft.rows)) kinds.DuplicateRow)) (le-ltb 255 (length name) short)
+      ap (λ (x : Bool). first_of (wrong_if x kinds.NameLong) (wrong_if (list_any (bytes_eq name) s.free || list_any (bytes_eq name) (names_of_rows s.draft.rows)) kinds.DuplicateRow)) (le-ltb name_limit (length name) short)
       ∙ ap (λ (x : Bool). wrong_if (x || list_any (bytes_eq name) (names_of_rows s.draft.rows)) kinds.DuplicateRow) e
       ∙ ap (λ (x : Bool). wrong_if (a || x) kinds.DuplicateRow) f
 
   pub kept_judged : (a : Bool) → list_any (bytes_eq name) s.free ≡ a → judge_kept s name ≡ first_of (wrong_if a kinds.DuplicateRow) (judge_build (row_fault s.draft name))
   kept_judged a e =
-      ap (λ (x : Bool). first_of (wrong_if x kinds.NameLong) (first_of (wrong_if (list_any (bytes_eq name) s.free) kinds.DuplicateRow) (judge_build (row_fault s.draft name)))) (le-ltb 255 (length name) short)
+      ap (λ (x : Bool). first_of (wrong_if x kinds.NameLong) (first_of (wrong_if (list_any (bytes_eq name) s.free) kinds.DuplicateRow) (judge_build (row_fault s.draft name)))) (le-ltb name_limit (length name) short)
       ∙ ap (λ (x : Bool). first_of (wrong_if x kinds.DuplicateRow) (judge_build (row_fault s.draft name))) e
 
   pub kept_refused : (A : Type 0) (f : Fault BuildFault) (g : Fault FileKind) → list_any (bytes_eq name) s.free ≡ false → g ≡ widened f → Follows {A = A} (row_fault s.draft name) (Err f) → Follows {A = Unit {0}} (judge_kept s name) (Err g)

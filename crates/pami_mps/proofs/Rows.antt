@@ -1,6 +1,7 @@
 -- What is seen behind one more line of ROWS.
 use Rattle.std.proofs.Common.{◌≡◌, ℕ, Bool, true, false, true≢false, cond, nat_lt, List, [], ◌∷◌, ◌++◌, map, length, Option, None, Some, refl, sym, ap, subst, ◌∙◌, ◌||◌}
 use Rattle.std.specs.List.{list_any, IsDistinct}
+use Rattle.std.specs.Option.{option_map}
 use Rattle.std.specs.Str.{bytes_eq}
 use Rattle.std.proofs.lemmas.Bool.{or_parts}
 use Rattle.std.proofs.lemmas.List.{append-nil, map-append}
@@ -16,12 +17,14 @@ use Rattle.pami_model.specs.declared.model.Sense.TheVariants as senses
 use Rattle.pami_model.specs.Rules.{names_of_rows, name_limit}
 use Rattle.pami_model.specs.Draft as draft
 use Rattle.pami_model.specs.Draft.{place_of, row_fault}
+use Rattle.pami_model.specs.Judgement.{first_of, wrong_if}
+use Rattle.pami_model.specs.Refusal.{judge_build}
+use Rattle.pami_model.proofs.Judging.{some≢none, both_none, unset}
 use Rattle.pami_mps.specs.declared.kind.RowKind.{RowKind}
 use Rattle.pami_mps.specs.declared.kind.Section.{Section}
 use Rattle.pami_mps.specs.Gather.{Seen, Declared, Pair, Value, kept_as, free_as, kept_in, free_in, kind_of, is_free, names_of, row_of, goal_values, given_for, constant_by, is_any, bounds_of, seen_by}
-use Rattle.pami_mps.specs.Good.{wrong_if, judge_build, judge_free, judge_kept, judge_kind, judge_row}
 use Rattle.pami_mps.specs.After.{with_row, after_row}
-use Rattle.pami_mps.proofs.Judged.{some≢none, both_none, unset}
+use Rattle.pami_mps.specs.Judge.{judge_free, judge_kept, judge_kind, judge_row}
 use Rattle.pami_mps.proofs.Changed.{same, place_none}
 use Rattle.pami_mps.proofs.Names.{rows_back}
 use Rattle.pami_mps.proofs.Values.{AreApart}
@@ -88,7 +91,8 @@ module _ (section : Section) (rows : List Declared) (free : List (List ℕ)) whe
 
 -- names stay distinct
 
-unplaced : (long : Bool) (o : Option ℕ) (rest : Option BuildFault) → judge_build (draft.first_of long faults.NameTooLong (draft.duplicate (λ earlier. faults.DuplicateRow earlier) o rest)) ≡ None → o ≡ None
+unplaced : (long : Bool) (o : Option ℕ) (rest : Option BuildFault)
+    → judge_build (first_of (wrong_if long faults.NameTooLong) (first_of (option_map (λ earlier. faults.DuplicateRow earlier) o) rest)) ≡ None → o ≡ None
 unplaced true o rest j = absurd (some≢none j)
 unplaced false None rest j = refl
 unplaced false (Some i) rest j = absurd (some≢none j)

@@ -8,13 +8,14 @@ use Rattle.std.proofs.lemmas.List.Concat.{flat_map-append}
 use Rattle.std.proofs.lemmas.List.Elements.{filter-append}
 use Rattle.std.proofs.lemmas.List.Sums.{fold-append}
 use Rattle.pami_model.specs.declared.fault.FileKind.TheVariants as kinds
+use Rattle.pami_model.specs.Judgement.{wrong_if}
+use Rattle.pami_model.proofs.Judging.{some≢none, both_none}
 use Rattle.pami_mps.specs.declared.kind.Section.{Section}
 use Rattle.pami_mps.specs.declared.kind.Section.TheVariants.{Start, Name, Rows, Columns, Rhs, End}
 use Rattle.pami_mps.specs.Line.{Line, placed, next, named, rank, section_of, section_at, follows, is_row_line, is_column_line, is_value_line}
 use Rattle.pami_mps.specs.Gather.{Seen, Declared, Pair, Value, rows_of, free_rows_of, pairs_of, values_of, kept_in, free_in, pairs_in, values_in, without_set, names_of, seen_by, seen}
-use Rattle.pami_mps.specs.Good.{wrong_if, judge, judge_read, judge_head, judge_section, judge_count, judge_data}
 use Rattle.pami_mps.specs.After.{after, after_words, after_row}
-use Rattle.pami_mps.proofs.Judged.{some≢none, both_none}
+use Rattle.pami_mps.specs.Judge.{judge, judge_read, judge_head, judge_section, judge_count, judge_data}
 use Rattle.pami_mps.proofs.Columns.{column_line}
 use Rattle.pami_mps.proofs.Values.{value_line}
 use Rattle.pami_mps.proofs.Rows.{AreNames, row_line, names_line}

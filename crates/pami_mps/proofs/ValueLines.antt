@@ -1,31 +1,31 @@
 -- One line of RHS.
-use Rattle.std.proofs.Common.{◌≡◌, ◌<◌, ℕ, Bool, true, List, [], ◌∷◌, length, set, get_or, Option, None, Some, Result, Ok, Err, refl, sym, ap, subst, ◌∙◌}
+use Rattle.std.proofs.Common.{◌≡◌, ◌<◌, ℕ, Bool, true, List, [], ◌∷◌, length, set, get_or, Option, None, Some, Result, Ok, Err, sym, ap, subst, ◌∙◌}
 use Rattle.std.specs.Prelude.{OnOk}
 use Rattle.pami_algebra.specs.Fraction.{Fraction}
 use Rattle.pami_frac.specs.declared.fault.Fault.{Fault}
 use Rattle.pami_frac.specs.Answers.{Follows}
 use Rattle.pami_frac.specs.declared.list.Bounds.{Bounds}
+use Rattle.pami_frac.specs.Decimal.{decimal_value}
 use Rattle.pami_model.specs.declared.fault.FileKind.{FileKind}
 use Rattle.pami_model.specs.declared.fault.FileKind.TheVariants as kinds
 use Rattle.pami_model.specs.declared.list.Row.{Row}
 use Rattle.pami_model.specs.Draft.{changed, Draft}
+use Rattle.pami_model.specs.Number.{is_infinite}
+use Rattle.pami_model.specs.Judgement.{first_of, wrong_if}
+use Rattle.pami_model.proofs.Judging.{later}
 use Rattle.pami_mps.specs.declared.kind.RowKind.{RowKind}
-use Rattle.pami_mps.specs.Gather.{Seen, Role, Kept, Objective, Dropped, bounds_of, decimal_value}
-use Rattle.pami_mps.specs.Good.{first_of, wrong_if, judge_right, judge_value, judge_values, role_for, is_given, is_infinite, with_right, with_value, bounds_at}
-use Rattle.pami_mps.specs.After.{after_values}
+use Rattle.pami_mps.specs.Gather.{Seen, Role, Kept, Objective, Dropped, bounds_of}
+use Rattle.pami_mps.specs.After.{after_values, role_for, with_right, with_value, bounds_at}
+use Rattle.pami_mps.specs.Judge.{judge_right, judge_value, judge_values, is_given}
 use Rattle.pami_mps.specs.Reader.{IsEven}
 use Rattle.pami_mps.proofs.Changed.{length_changed}
 use Rattle.pami_mps.proofs.Places.{changed_set, changed_bounds}
-use Rattle.pami_mps.proofs.Judging.{later, sooner}
 
 module _ (s : Seen) (row : ℕ) (value : Fraction) where
   pub right_judged : (a b : Bool) → is_given s.given row ≡ a → is_infinite value ≡ b → judge_right s (Kept row) value ≡ first_of (wrong_if a kinds.DuplicateEntry) (wrong_if b kinds.Infinite)
   right_judged a b e f =
       ap (λ (x : Bool). first_of (wrong_if x kinds.DuplicateEntry) (wrong_if (is_infinite value) kinds.Infinite)) e
       ∙ ap (λ (x : Bool). first_of (wrong_if a kinds.DuplicateEntry) (wrong_if x kinds.Infinite)) f
-
-  pub right_given : (b : Bool) → is_given s.given row ≡ true → judge_right s (Kept row) value ≡ Some kinds.DuplicateEntry
-  right_given b e = right_judged true _ e refl
 
   -- the row's bounds and its mark
   pub right_set : (kind d : RowKind) (bounds : Bounds) (draft : Draft) (given : List Bool) → row < length s.kinds → row < length s.given → kind ≡ get_or s.kinds row d → bounds ≡ bounds_of kind value
@@ -52,8 +52,8 @@ pub value_even : (s : Seen) (row value : List ℕ) → IsEven s → IsEven (with
 value_even s row value h = right_even s (role_for s row) (decimal_value value) h
 
 module _ (s : Seen) (ws : List (List ℕ)) (r v q w : List ℕ) where
-  pub value_first : (f : Fault FileKind) → ws ≡ r ∷ v ∷ q ∷ w ∷ [] → Follows {A = Unit {0}} (judge_value s r v) (Err f) → Follows {A = Unit {0}} (judge_values s ws) (Err f)
-  value_first f e h = subst (λ (us : List (List ℕ)). Follows {A = Unit {0}} (judge_values s us) (Err f)) (sym e) (sooner (judge_value s r v) _ f h)
+  pub value_between : (mid : Seen) → ws ≡ r ∷ v ∷ q ∷ w ∷ [] → mid ≡ with_value r v s → IsEven s → IsEven mid
+  value_between mid e m h = subst IsEven (sym m) (value_even s r v h)
 
   pub value_second : (x : Result (Unit {0}) (Fault FileKind)) (mid : Seen) → ws ≡ r ∷ v ∷ q ∷ w ∷ [] → judge_value s r v ≡ None → mid ≡ with_value r v s → Follows (judge_value mid q w) x → Follows (judge_values s ws) x
   value_second x mid e h m g = subst (λ (us : List (List ℕ)). Follows (judge_values s us) x) (sym e)

@@ -7,14 +7,17 @@ use Rattle.std.proofs.lemmas.Bool.{eqb-true, or_parts}
 use Rattle.std.proofs.lemmas.List.{append-nil, map-append}
 use Rattle.std.proofs.lemmas.List.Elements.{filter-append}
 use Rattle.pami_algebra.specs.Fraction.{Fraction}
+use Rattle.pami_frac.specs.Decimal.{decimal_value}
 use Rattle.pami_model.specs.declared.list.Row.{Row}
 use Rattle.pami_model.specs.declared.model.Sense.TheVariants as senses
 use Rattle.pami_model.specs.Draft.{new_row, place_of, changed}
+use Rattle.pami_model.specs.Number.{judge_number}
+use Rattle.pami_model.specs.Judgement.{wrong_if}
+use Rattle.pami_model.proofs.Judging.{some≢none, both_none, unset}
 use Rattle.pami_mps.specs.declared.kind.Section.{Section}
-use Rattle.pami_mps.specs.Gather.{Seen, Declared, Pair, Value, Role, Kept, Objective, Dropped, value_words, values_in, names_by, names_of, is_any, only_of, role_of, role_by, decimal_value, row_of, goal_values, given_for, constant_by, bounds_of, columns_of, places_of, has_cost, seen_by}
-use Rattle.pami_mps.specs.Good.{wrong_if, judge_value, judge_right_role, judge_number, judge_values, is_given, bounds_at, with_right, with_value, role_for}
-use Rattle.pami_mps.specs.After.{after_values}
-use Rattle.pami_mps.proofs.Judged.{some≢none, both_none, unset}
+use Rattle.pami_mps.specs.Gather.{Seen, Declared, Pair, Value, Role, Kept, Objective, Dropped, value_words, values_in, names_by, names_of, is_any, only_of, role_of, role_by, row_of, goal_values, given_for, constant_by, bounds_of, columns_of, places_of, has_cost, seen_by}
+use Rattle.pami_mps.specs.After.{after_values, bounds_at, with_right, with_value, role_for}
+use Rattle.pami_mps.specs.Judge.{judge_value, judge_right_role, judge_values, is_given}
 use Rattle.pami_mps.proofs.Changed.{same, suc≢zero, suc-less, place_cons, place_none, place_some, map_changed, map_missed}
 use Rattle.pami_mps.proofs.Names.{rows_back}
 

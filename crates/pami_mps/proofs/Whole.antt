@@ -1,19 +1,20 @@
 -- Whole texts: a reader goes from line to line, and one text has one model.
-use Rattle.std.proofs.Common.{◌≡◌, ◌≢◌, ◌<◌, ◌≤◌, ◌+◌, ◌-◌, ℕ, zero, suc, false, cond, List, [], ◌∷◌, ◌++◌, length, get_or, take, map, Option, None, Some, refl, sym, ap, subst, ◌∙◌, arith, below_more, Bor}
+use Rattle.std.proofs.Common.{◌≡◌, ◌≢◌, ◌<◌, ◌≤◌, ◌+◌, ◌-◌, ℕ, zero, suc, false, cond, List, [], ◌∷◌, ◌++◌, length, get_or, take, map, Option, None, Some, refl, sym, ap, subst, ◌∙◌, arith, below_more}
 use Rattle.std.proofs.lemmas.List.{take_more, take_all, length-map, get_or-map}
 use Rattle.pami_model.specs.declared.fault.FileKind.{FileKind}
-use Rattle.pami_model.specs.declared.fault.Crossed.{Crossed}
-use Rattle.pami_model.specs.Draft.{empty_draft, first_crossed}
-use Rattle.pami_model.specs.Contents.{Contents, contents_of}
+use Rattle.pami_model.specs.Draft.{empty_draft}
+use Rattle.pami_model.specs.Contents.{Contents}
+use Rattle.pami_model.specs.FirstFault.{AreGood}
+use Rattle.pami_model.specs.Rules.{byte_limit}
+use Rattle.pami_model.proofs.Judging.{some≢none}
 use Rattle.pami_mps.specs.declared.kind.Section.{Section}
 use Rattle.pami_mps.specs.declared.kind.Section.TheVariants.{Start, End}
 use Rattle.pami_mps.specs.Line.{Line, line_of, text_lines, section_at, is_end}
 use Rattle.pami_mps.specs.Gather.{Seen, seen}
-use Rattle.pami_mps.specs.Good.{judge, judge_read}
 use Rattle.pami_mps.specs.After.{after, after_words}
-use Rattle.pami_mps.specs.Mps.{Mps, fault_at, blank, byte_limit}
+use Rattle.pami_mps.specs.Judge.{judge, judge_read}
+use Rattle.pami_mps.specs.Mps.{Mps, fault_at, blank}
 use Rattle.pami_edge.specs.Lines.{lines_of}
-use Rattle.pami_mps.proofs.Judged.{some≢none}
 use Rattle.pami_mps.proofs.Seen.{Ready, ready_start, ready_more, seen_more}
 
 -- what no line has given
@@ -22,7 +23,7 @@ start = record { section = Start; kinds = []; free = []; draft = empty_draft; ha
 
 -- the first i lines are good, and s is what they give
 pub record So (ls : List Line) (i : ℕ) (s : Seen) : Type 0 where
-  pub good : (j : ℕ) → j < i → fault_at ls j ≡ None
+  pub good : AreGood (fault_at ls) i
   pub state : s ≡ seen (take i ls)
   pub ready : Ready (take i ls)
 
@@ -73,47 +74,16 @@ module _ (bytes : List ℕ) where
   pub unended : (i : ℕ) (s : Seen) → So (text_lines bytes) i s → length (text_lines bytes) ≤ i → s.section ≢ End → (c : Contents) → Mps bytes c → ⊥
   unended i s so le open_still c is = open_still (ap (λ (x : Seen). x.section) (all_lines i s so le) ∙ is.ended)
 
-  -- bounds that are crossed
-  pub crossed : (i : ℕ) (s : Seen) (x : Crossed) → So (text_lines bytes) i s → length (text_lines bytes) ≤ i → first_crossed s.draft ≡ Some x → (c : Contents) → Mps bytes c → ⊥
-  crossed i s x so le h c is = some≢none (sym h ∙ ap (λ (y : Seen). first_crossed y.draft) (all_lines i s so le) ∙ is.uncrossed)
-
-  pub accepted : (i : ℕ) (s : Seen) (c : Contents) → length bytes ≤ byte_limit → So (text_lines bytes) i s → length (text_lines bytes) ≤ i → s.section ≡ End → first_crossed s.draft ≡ None → c ≡ contents_of s.draft → Mps bytes c
-  accepted i s c fits so le e uncrossed is = record {
-    fits = fits;
-    good = λ j lt. so.good j (omega arith);
-    ended = ap (λ (x : Seen). x.section) (sym (all_lines i s so le)) ∙ e;
-    uncrossed = ap (λ (x : Seen). first_crossed x.draft) (sym (all_lines i s so le)) ∙ uncrossed;
-    contents = is ∙ ap (λ (x : Seen). contents_of x.draft) (all_lines i s so le);
-  }
-
   pub too_long : byte_limit < length bytes → (c : Contents) → Mps bytes c → ⊥
   too_long lt c is = let fits : length bytes ≤ byte_limit = is.fits in omega arith
 
-  -- the same where a reader stops at ENDATA
-
-  at_end : (i : ℕ) (s : Seen) → So (text_lines bytes) i s → i ≤ length (text_lines bytes) → s.section ≡ End → So (text_lines bytes) (length (text_lines bytes)) s
-  at_end i s so le e = ended_early (text_lines bytes) i (length (text_lines bytes)) s so e le (omega arith)
-
-  pub crossed_early : (i : ℕ) (s : Seen) (x : Crossed) → So (text_lines bytes) i s → i ≤ length (text_lines bytes) → s.section ≡ End → first_crossed s.draft ≡ Some x → (c : Contents) → Mps bytes c → ⊥
-  crossed_early i s x so le e h = crossed (length (text_lines bytes)) s x (at_end i s so le e) (omega arith) h
-
-  pub accepted_early : (i : ℕ) (s : Seen) (c : Contents) → length bytes ≤ byte_limit → So (text_lines bytes) i s → i ≤ length (text_lines bytes) → s.section ≡ End → first_crossed s.draft ≡ None → c ≡ contents_of s.draft → Mps bytes c
-  accepted_early i s c fits so le e uncrossed is = accepted (length (text_lines bytes)) s c fits (at_end i s so le e) (omega arith) e uncrossed is
-
--- the lines of the bytes, as pieces and as a slice of slices
+-- the lines of the bytes, as pieces
 
 pub line_at : (pieces : List (List ℕ)) (bytes : List ℕ) (i : ℕ) (d : List ℕ) → pieces ≡ lines_of bytes → i < length pieces → line_of (get_or pieces i d) ≡ get_or (text_lines bytes) i blank
 line_at pieces bytes i d e lt = sym (get_or-map line_of pieces i d blank lt) ∙ ap (λ (xs : List (List ℕ)). get_or (map line_of xs) i blank) e
 
 pub lines_count : (pieces : List (List ℕ)) (bytes : List ℕ) → pieces ≡ lines_of bytes → length (text_lines bytes) ≡ length pieces
 lines_count pieces bytes e = length-map (lines_of bytes) line_of ∙ ap length (sym e)
-
-pub slice_at : (vs : List (Bor (List ℕ))) (bytes : List ℕ) (i : ℕ) (d : Bor (List ℕ)) → map (λ w. w.now) vs ≡ lines_of bytes → i < length vs → line_of (get_or vs i d).now ≡ get_or (text_lines bytes) i blank
-slice_at vs bytes i d e lt =
-    ap line_of (sym (get_or-map (λ w. w.now) vs i d d.now lt)) ∙ line_at (map (λ w. w.now) vs) bytes i d.now e (rw (length-map vs (λ w. w.now)) lt)
-
-pub slices_count : (vs : List (Bor (List ℕ))) (bytes : List ℕ) → map (λ w. w.now) vs ≡ lines_of bytes → length (text_lines bytes) ≡ length vs
-slices_count vs bytes e = lines_count (map (λ w. w.now) vs) bytes e ∙ length-map vs (λ w. w.now)
 
 -- one text, one model
 pub one_model : (bytes : List ℕ) (c d : Contents) → Mps bytes c → Mps bytes d → c ≡ d

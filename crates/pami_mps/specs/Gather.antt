@@ -1,12 +1,12 @@
 -- What the lines of an MPS file give, by filters over the lines of each section.
-use Rattle.std.specs.Prelude.{ℕ, ◌%◌, Bool, true, false, List, [], ◌∷◌, ◌++◌, length, map, filter, fold, drop, Option, None, Some, Result, Ok, Err, if◌then◌else◌, nat_eq, codes}
+use Rattle.std.specs.Prelude.{ℕ, ◌%◌, Bool, true, false, List, [], ◌∷◌, ◌++◌, length, map, filter, fold, drop, Option, None, Some, if◌then◌else◌, nat_eq, codes}
 use Rattle.std.specs.List.{flat_map, list_any}
 use Rattle.std.specs.Str.{bytes_eq}
 use Rattle.pami_algebra.specs.Fraction.{Fraction}
 use Rattle.pami_algebra.specs.Operations.{neg_f}
 use Rattle.pami_frac.specs.declared.list.Bounds.{Bounds}
 use Rattle.pami_frac.specs.declared.list.Entry.{Entry}
-use Rattle.pami_frac.specs.declared.fault.DecimalFault.{DecimalFault}
+use Rattle.pami_frac.specs.Decimal.{decimal_value}
 use Rattle.pami_model.specs.declared.list.Row.{Row}
 use Rattle.pami_model.specs.declared.list.Column.{Column}
 use Rattle.pami_model.specs.declared.model.Sense.TheVariants as senses
@@ -16,7 +16,6 @@ use Rattle.pami_mps.specs.declared.kind.RowKind.TheVariants.{Free, AtMost, AtLea
 use Rattle.pami_mps.specs.declared.kind.Section.{Section}
 use Rattle.pami_mps.specs.declared.kind.Section.TheVariants.{Start}
 use Rattle.pami_mps.specs.Line.{Line, placed, is_row_line, is_column_line, is_value_line}
-use Rattle.pami_frac.specs.Decimal.{decimal_outcome}
 
 -- ROWS
 
@@ -81,16 +80,6 @@ role_by None free = free_role free
 
 abbrev pub role_of : List (List ℕ) → List (List ℕ) → List ℕ → Option Role
 role_of kept free name = role_by (place_of name kept) (place_of name free)
-
--- numbers
-
--- the value of a decimal, 0 for another word
-abbrev pub value_by : Result Fraction DecimalFault → Fraction
-value_by (Ok v) = v
-value_by (Err e) = zero
-
-abbrev pub decimal_value : List ℕ → Fraction
-decimal_value word = value_by (decimal_outcome word)
 
 -- COLUMNS
 

@@ -1,6 +1,6 @@
 pub mod Line
 pub mod Gather
-pub mod Good
 pub mod After
+pub mod Judge
 pub mod Mps
 pub mod Reader

@@ -1,17 +1,16 @@
 -- The bytes are an MPS text of a model.
-use Rattle.std.specs.Prelude.{◌≡◌, ℕ, ◌<◌, ◌≤◌, false, List, [], length, slice_index_or, take, Option, None, Result, Ok, Err}
+use Rattle.std.specs.Prelude.{◌≡◌, ℕ, ◌≤◌, false, List, [], length, slice_index_or, take, Option, None, Result, Ok, Err}
 use Rattle.pami_frac.specs.declared.fault.Fault.{Fault}
 use Rattle.pami_frac.specs.declared.fault.Fault.TheVariants as faults
 use Rattle.pami_model.specs.declared.fault.FileKind.{FileKind}
 use Rattle.pami_model.specs.Draft.{first_crossed}
+use Rattle.pami_model.specs.FirstFault.{AreGood}
+pub use Rattle.pami_model.specs.Rules.{byte_limit}
 use Rattle.pami_model.specs.Contents.{Contents, contents_of}
 use Rattle.pami_mps.specs.declared.kind.Section.TheVariants.{End}
 use Rattle.pami_mps.specs.Line.{Line, text_lines, section_at}
 use Rattle.pami_mps.specs.Gather.{seen}
-use Rattle.pami_mps.specs.Good.{judge}
-
-abbrev pub byte_limit : ℕ
-byte_limit = 16777216
+use Rattle.pami_mps.specs.Judge.{judge}
 
 abbrev pub blank : Line
 blank = record { head = false; words = []; control = false }
@@ -24,7 +23,7 @@ fault_at ls i = judge (seen (take i ls)) (slice_index_or ls i blank)
 -- no bounds are crossed, and the contents are what the lines give
 pub record Mps (bytes : List ℕ) (c : Contents) : Type 0 where
   pub fits : length bytes ≤ byte_limit
-  pub good : (i : ℕ) → i < length (text_lines bytes) → fault_at (text_lines bytes) i ≡ None
+  pub good : AreGood (fault_at (text_lines bytes)) (length (text_lines bytes))
   pub ended : section_at (text_lines bytes) ≡ End
   pub uncrossed : first_crossed (seen (text_lines bytes)).draft ≡ None
   pub contents : c ≡ contents_of (seen (text_lines bytes)).draft

@@ -1,19 +1,16 @@
 -- What the reader's state says of the lines before it.
-use Rattle.std.specs.Prelude.{◌≡◌, ℕ, ◌<◌, ◌≤◌, false, List, [], length, map, None}
-use Rattle.pami_frac.specs.declared.fault.Fault.{Fault}
-use Rattle.pami_frac.specs.declared.fault.Fault.TheVariants as outcomes
-use Rattle.pami_model.specs.declared.fault.BuildFault.{BuildFault}
-use Rattle.pami_model.specs.declared.fault.FileKind.{FileKind}
+use Rattle.std.specs.Prelude.{◌≡◌, ℕ, ◌≤◌, false, List, [], length, map}
 use Rattle.pami_model.specs.declared.model.Sense.TheVariants as senses
 use Rattle.pami_model.specs.Draft.{empty_draft}
+use Rattle.pami_model.specs.FirstFault.{AreGood}
+use Rattle.pami_model.specs.Rules.{byte_limit}
 use Rattle.pami_mps.specs.declared.reader.Reader.{Reader}
 use Rattle.pami_mps.specs.declared.kind.RowRole.{RowRole}
 use Rattle.pami_mps.specs.declared.kind.RowRole.TheVariants as roles
 use Rattle.pami_mps.specs.declared.kind.Section.TheVariants.{Start, End}
 use Rattle.pami_mps.specs.Line.{named, text_lines, section_at}
 use Rattle.pami_mps.specs.Gather.{Seen, seen, Role, Kept, Objective, Dropped}
-use Rattle.pami_mps.specs.Good.{kind_by}
-use Rattle.pami_mps.specs.Mps.{byte_limit, fault_at}
+use Rattle.pami_mps.specs.Mps.{fault_at}
 
 -- what a reader has seen
 abbrev pub seen_by_reader : Reader → Seen
@@ -46,14 +43,9 @@ role_told (roles.Kept i) = Kept i
 role_told roles.Objective = Objective
 role_told roles.Dropped = Dropped
 
--- a builder's refusal as what is wrong with a line
-abbrev pub widened : Fault BuildFault → Fault FileKind
-widened (outcomes.Named fault) = outcomes.Named (kind_by fault)
-widened outcomes.OutOfMemory = outcomes.OutOfMemory
-
 -- these are the lines of an accepted text, but for what its builder finishes, and this is what they give
 pub record IsRead (bytes : List ℕ) (s : Seen) : Type 0 where
   pub fits : length bytes ≤ byte_limit
-  pub good : (i : ℕ) → i < length (text_lines bytes) → fault_at (text_lines bytes) i ≡ None
+  pub good : AreGood (fault_at (text_lines bytes)) (length (text_lines bytes))
   pub ended : section_at (text_lines bytes) ≡ End
   pub state : s ≡ seen (text_lines bytes)

@@ -9,11 +9,8 @@ use crate::kind::{NotAccepted, Section};
 use crate::reader::Reader;
 use pami_edge::lines;
 use pami_frac::Fault;
-use pami_model::{FileKind, Model};
+use pami_model::{BYTE_LIMIT, FileKind, Model};
 use std::alloc::Global;
-
-/// The most bytes that a text may have.
-const BYTE_LIMIT: usize = 16777216;
 
 /// Takes the lines as far as ENDATA, one after another.
 fn read_lines(alloc: Global, bytes: &[u8]) -> Result<Reader, Fault<FileKind>>
@@ -29,9 +26,7 @@ fn read_lines(alloc: Global, bytes: &[u8]) -> Result<Reader, Fault<FileKind>>
         if reader.section == Section::End {
             return Ok(reader);
         }
-        if let Err(fault) = reader.take_line(alloc, line.of(bytes)) {
-            return Err(fault);
-        }
+        reader.take_line(alloc, line.of(bytes))?;
     }
     if reader.section != Section::End {
         return Err(Fault::Named(FileKind::EndMissing));

@@ -4,21 +4,18 @@ ghost use Rattle.std.specs.Prelude.{◌≡◌, ◌<◌, ◌∷◌, [], false, le
 ghost use Rattle.std.specs.Option.{option_map};
 ghost use Rattle.pami_frac.specs.Answers.{Follows};
 ghost use Rattle.pami_mps.specs.Line.{named, is_end, line_of};
-ghost use Rattle.pami_mps.specs.Gather.{bounds_of as the_bounds, is_free as is_free_kind, decimal_value, without_set, Kept, Objective};
-ghost use Rattle.pami_mps.specs.Good.{judge_free, judge_kept, judge_row, judge_number, judge_column_name, with_column, role_for, judge_entry, with_entry, judge_pair, with_pair, judge_column, judge_right, with_right, judge_value, with_value, judge_values, judge_head, judge_data, judge};
-ghost use Rattle.pami_mps.specs.After.{with_row, after_row, after_column, after_values, after_words, after};
-ghost use Rattle.pami_mps.specs.Reader.{seen_by_reader, nothing_seen, section_begun, IsEven, role_told, widened};
+ghost use Rattle.pami_mps.specs.Gather.{bounds_of as the_bounds, is_free as is_free_kind, without_set, Kept, Objective};
+ghost use Rattle.pami_mps.specs.After.{with_row, after_row, after_column, after_values, after_words, after, with_column, role_for, with_entry, with_pair, with_right, with_value};
+ghost use Rattle.pami_mps.specs.Judge.{judge_free, judge_kept, judge_row, judge_column_name, judge_entry, judge_pair, judge_column, judge_right, judge_value, judge_values, judge_head, judge_data, judge};
+ghost use Rattle.pami_mps.specs.Reader.{seen_by_reader, nothing_seen, section_begun, IsEven, role_told};
 
 use crate::kind::{RowKind, RowRole, Section};
 use crate::text::{has_control, is_comment, is_head, words};
-use crate::word::{follows, is_infinite, is_marker, kind_of, section_of};
+use crate::word::{follows, is_marker, kind_of, section_of};
 use indexmap::IndexSet;
-use pami_frac::{Bounds, DecimalFault, Fault, Frac, OutOfMemory, read_decimal};
-use pami_model::{BuildFault, Builder, FileKind, Sense, What};
+use pami_frac::{Bounds, Fault, Frac, OutOfMemory};
+use pami_model::{Builder, FileKind, NAME_LIMIT, Sense, file_fault, is_infinite, read_number};
 use std::alloc::Global;
-
-/// The most bytes that a name may have.
-const NAME_LIMIT: usize = 255;
 
 /// What a reader has gathered of the lines so far.
 #[derive(Drop)]
@@ -35,55 +32,6 @@ pub(crate) struct Reader {
     pub(crate) given: Vec<bool>,
     /// Whether the objective has one.
     pub(crate) has_constant: bool,
-}
-
-/// A builder's refusal as what is wrong with a line.
-fn file_fault(fault: Fault<BuildFault>) -> Fault<FileKind>
-    ensures { result ≡ widened fault }
-{
-    match fault {
-        Fault::Named(BuildFault::DuplicateRow { earlier: _ }) => Fault::Named(
-            FileKind::DuplicateRow,
-        ),
-        Fault::Named(BuildFault::DuplicateColumn { earlier: _ }) => {
-            Fault::Named(FileKind::DuplicateColumn)
-        }
-        Fault::Named(BuildFault::DuplicateEntry { column: _, row: _ }) => {
-            Fault::Named(FileKind::DuplicateEntry)
-        }
-        Fault::Named(BuildFault::NameTooLong) => Fault::Named(FileKind::NameLong),
-        Fault::Named(
-            BuildFault::TooMany {
-                what: What::Rows,
-                limit: _,
-            },
-        ) => { Fault::Named(FileKind::TooManyRows) }
-        Fault::Named(
-            BuildFault::TooMany {
-                what: What::Columns,
-                limit: _,
-            },
-        ) => { Fault::Named(FileKind::TooManyColumns) }
-        Fault::Named(
-            BuildFault::TooMany {
-                what: What::Entries,
-                limit: _,
-            },
-        ) => { Fault::Named(FileKind::TooManyEntries) }
-        Fault::OutOfMemory => Fault::OutOfMemory,
-    }
-}
-
-/// The number that a word spells.
-fn number(word: &[u8]) -> Result<Frac, Fault<FileKind>>
-    ensures judged { Follows (judge_number word.now) result }
-    ensures value { IfOk result (λ v. v ≡ decimal_value word.now) }
-{
-    match read_decimal(word) {
-        Ok(value) => Ok(value),
-        Err(DecimalFault::NotANumber) => Err(Fault::Named(FileKind::Number)),
-        Err(DecimalFault::TooWide) => Err(Fault::Named(FileKind::Wide)),
-    }
 }
 
 /// The bounds of a row by its type and its right-hand side.
@@ -282,10 +230,7 @@ impl Reader {
             Some(role) => role,
             None => return Err(Fault::Named(FileKind::UnknownRow)),
         };
-        let value = match number(value) {
-            Ok(value) => value,
-            Err(fault) => return Err(fault),
-        };
+        let value = read_number(value)?;
         match role {
             RowRole::Kept(row) => self.add_entry(row, value),
             RowRole::Objective => self.set_cost(value),
@@ -301,9 +246,7 @@ impl Reader {
         match words {
             [column, row, value] => self.take_one(column, row, value),
             [column, row, value, other_row, other_value] => {
-                if let Err(fault) = self.take_one(column, row, value) {
-                    return Err(fault);
-                }
+                self.take_one(column, row, value)?;
                 self.take_pair(other_row, other_value)
             }
             _ => Err(Fault::Named(FileKind::Words)),
@@ -316,9 +259,7 @@ impl Reader {
         ensures grown { OnOk result (seen_by_reader self.new ≡ after_column (seen_by_reader self.old) (column.now ∷ row.now ∷ value.now ∷ [])) }
         ensures some { OnOk result (0 < length self.new.builder.columns) }
     {
-        if let Err(fault) = self.stand_column(column) {
-            return Err(fault);
-        }
+        self.stand_column(column)?;
         if is_marker(row) {
             return Err(Fault::Named(FileKind::Integer));
         }
@@ -368,10 +309,7 @@ impl Reader {
             Some(role) => role,
             None => return Err(Fault::Named(FileKind::UnknownRow)),
         };
-        let value = match number(value) {
-            Ok(value) => value,
-            Err(fault) => return Err(fault),
-        };
+        let value = read_number(value)?;
         match role {
             RowRole::Kept(row) => self.set_right(row, value),
             RowRole::Objective => self.set_constant(value),
@@ -393,9 +331,7 @@ impl Reader {
         match pairs_of(words) {
             [row, value] => self.take_value(row, value),
             [row, value, other_row, other_value] => {
-                if let Err(fault) = self.take_value(row, value) {
-                    return Err(fault);
-                }
+                self.take_value(row, value)?;
                 self.take_value(other_row, other_value)
             }
             _ => Err(Fault::Named(FileKind::Words)),
@@ -433,10 +369,7 @@ impl Reader {
         ensures grown { OnOk result (seen_by_reader self.new ≡ (if head then section_begun (map (λ w. w.now) words.now) (seen_by_reader self.old) else after_words self.old.section (seen_by_reader self.old) (map (λ w. w.now) words.now))) }
     {
         if head {
-            match take_head(self.section, words) {
-                Ok(section) => self.section = section,
-                Err(fault) => return Err(fault),
-            }
+            self.section = take_head(self.section, words)?;
             return Ok(());
         }
         self.take_data(alloc, words)

@@ -3,10 +3,9 @@
 ghost use Rattle.std.specs.Prelude.{◌≡◌};
 ghost use Rattle.pami_mps.specs.Line as line;
 ghost use Rattle.pami_mps.specs.Gather as gather;
-ghost use Rattle.pami_mps.specs.Good as good;
+ghost use Rattle.pami_mps.specs.Judge as judge;
 
 use crate::kind::{RowKind, Section};
-use pami_frac::Frac;
 
 /// The section that a word names.
 pub(crate) fn section_of(word: &[u8]) -> Option<Section>
@@ -61,15 +60,7 @@ pub(crate) fn kind_of(word: &[u8]) -> Option<RowKind>
 
 /// Whether the word marks a part of an integer model.
 pub(crate) fn is_marker(word: &[u8]) -> bool
-    ensures { result ≡ good.is_marker word.now }
+    ensures { result ≡ judge.is_marker word.now }
 {
     word == b"'MARKER'".as_slice()
-}
-
-/// Whether the value is 10^20 or more in absolute value.
-pub(crate) fn is_infinite(value: &Frac) -> bool
-    ensures { result ≡ good.is_infinite value.now }
-{
-    let whole = value.numerator().unsigned_abs() / value.denominator().unsigned_abs();
-    whole >= 100_000_000_000_000_000_000
 }

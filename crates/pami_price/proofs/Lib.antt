@@ -2,4 +2,3 @@ pub mod Walked
 pub mod Priced
 pub mod Rows
 pub mod Products
-pub mod LaidOut

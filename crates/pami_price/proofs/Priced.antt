@@ -1,11 +1,12 @@
 -- A slice by its lists is the slice of the whole form, and a script that isn't refused gives the entries of the row.
-use Rattle.std.proofs.Common.{◌≡◌, ℕ, zero, suc, ◌+◌, ◌*◌, ◌-◌, ◌<◌, ◌≤◌, Bool, true, false, cond, List, [], ◌∷◌, ◌++◌, length, slice_index_or, refl, sym, ap, ◌∙◌, subst, arith, Result, Ok, Err, ◌⊎◌, ⊎_elim}
+use Rattle.std.proofs.Common.{◌≡◌, ℕ, zero, suc, ◌+◌, ◌*◌, ◌-◌, ◌<◌, ◌≤◌, Bool, true, false, cond, List, [], ◌∷◌, ◌++◌, length, refl, sym, ap, ◌∙◌, subst, arith, Result, Ok, Err, ◌⊎◌, ⊎_elim}
 use Rattle.std.specs.List.{filter, range_with_len}
 use Rattle.std.proofs.lemmas.List.{append-nil}
 use Rattle.std.proofs.lemmas.List.Elements.{filter-append}
 use Rattle.pami_algebra.specs.Fraction.{Fraction}
 use Rattle.pami_algebra.specs.Ring.{var, t0, ◌⊕◌}
 use Rattle.pami_algebra.proofs.Laws.{by_ring_f}
+use Rattle.pami_frac.specs.Signs.{is_zero}
 use Rattle.pami_frac.specs.declared.arithmetic.Refused.{Refused}
 use Rattle.pami_frac.specs.declared.list.Entry.{Entry}
 use Rattle.pami_linear.specs.Lists.{get}
@@ -18,10 +19,9 @@ use Rattle.pami_theory.specs.Ratio.{row_entry}
 use Rattle.pami_theory.specs.Weights.{lesser}
 use Rattle.pami_method.specs.Scripts as method
 use Rattle.pami_vec.specs.Scripts.{dot_script}
-use Rattle.pami_vec.specs.declared.list.Stand.{Stand}
-use Rattle.pami_vec.specs.declared.list.Stand.TheVariants.{Basic, Lower, Upper, Zero}
-use Rattle.pami_price.specs.Slices.{column_at, is_nonbasic, is_nonbasic_at, with_first, entries_script, slice_size, slice_script, slices, then_slice, then_more, slices_script, row_script}
-use Rattle.pami_price.specs.Agreement.{theory_stand, AreListed, entries_at, nonzero_entries, all_nonbasic}
+use Rattle.pami_theory.specs.declared.words.Stand.{Stand}
+use Rattle.pami_price.specs.Slices.{column_at, is_nonbasic_at, with_first, entries_script, slice_size, slice_script, slices, then_slice, then_more, slices_script, row_script}
+use Rattle.pami_price.specs.Agreement.{AreListed, entries_at, nonzero_entries, all_nonbasic}
 use Rattle.pami_price.specs.declared.price.SliceRefused.{SliceRefused}
 
 -- ---- the whole form's way
@@ -31,14 +31,8 @@ nonbasic b v = method.is_nonbasic (theory.stand_at b v)
 abbrev pub entry_script : Form → List Fraction → ℕ → ℕ → Result Fraction Refused
 entry_script f rho k v = add_dot f.rows (get rho) (coefficient f v) zero_f
 
-same_stand : (s : Stand) → is_nonbasic s ≡ method.is_nonbasic (theory_stand s)
-same_stand Basic = refl
-same_stand Lower = refl
-same_stand Upper = refl
-same_stand Zero = refl
-
 nonbasic_is : (f : Form) (b : theory.Basis) (columns : List (List Fraction)) (stands : List Stand) (v : ℕ) → AreListed f b columns stands → v < variables f → is_nonbasic_at stands v ≡ nonbasic b v
-nonbasic_is f b columns stands v l h = same_stand (slice_index_or stands v Basic) ∙ ap method.is_nonbasic (sym (l.stand v h))
+nonbasic_is f b columns stands v l h = ap method.is_nonbasic (sym (l.stand v h))
 
 dot_is : (f : Form) (b : theory.Basis) (columns : List (List Fraction)) (stands : List Stand) (rho : List Fraction) (k v : ℕ) → AreListed f b columns stands → length rho ≡ f.rows → v < variables f → dot_script rho (column_at columns v) ≡ entry_script f rho k v
 unfolding dot_script
@@ -111,7 +105,7 @@ slice_value f b columns stands rho slice es l r e =
 
 -- ---- all slices
 nonzero_by : (v : ℕ) (alpha : Fraction) (es fs : List Entry) → with_first v alpha (es ++ fs) ≡ with_first v alpha es ++ fs
-nonzero_by v alpha es fs = go (Rattle.pami_frac.specs.Signs.is_zero alpha)
+nonzero_by v alpha es fs = go (is_zero alpha)
   where
     go : (t : Bool) → cond t (es ++ fs) (record { place = v; value = alpha } ∷ es ++ fs) ≡ cond t es (record { place = v; value = alpha } ∷ es) ++ fs
     go true = refl

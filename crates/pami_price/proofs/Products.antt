@@ -1,15 +1,15 @@
 -- A row times a column by the column's entries alone.
-use Rattle.std.proofs.Common.{◌≡◌, ℕ, ◌<◌, List, length, get_or, ap, ◌∙◌, subst, arith, Result}
+use Rattle.std.proofs.Common.{◌≡◌, ℕ, ◌<◌, List, length, get_or, sym, ap, ◌∙◌, subst, arith, Result}
 use lib.IntN.{pos}
 use Rattle.pami_algebra.specs.Fraction.{Fraction}
 use Rattle.pami_algebra.specs.Operations.{of_int}
 use Rattle.pami_frac.specs.declared.arithmetic.Refused.{Refused}
 use Rattle.pami_frac.specs.declared.list.Entry.{Entry}
 use Rattle.pami_script.specs.Script.{add_product, each_entry}
-use Rattle.pami_script.specs.Dense.{at, get, Rising}
+use Rattle.pami_linear.specs.Lists.{get}
+use Rattle.pami_script.specs.Dense.{at, Rising}
 use Rattle.pami_script.proofs.Scripts.{each_same}
 use Rattle.pami_script.proofs.Loops.{get_is, place_below}
-use Rattle.pami_frac.specs.Arithmetic.{mul_outcome}
 use Rattle.pami_script.proofs.Skipped.{add_dot_sparse_right}
 use Rattle.pami_vec.specs.Entries.{AreEntriesOf}
 use Rattle.pami_vec.specs.Scripts.{dot_script}
@@ -28,7 +28,3 @@ dot_by_entries rho column es h a =
 
 pub place_fits : (rho column : List Fraction) (es : List Entry) (i : ℕ) (e : Entry) → length column ≡ length rho → AreEntriesOf column es → i < length es → e ≡ get_or es i e → e.place < length rho
 place_fits rho column es i e h a l q = let b = place_below es 0 (length column) i e a.rising l q in omega arith
-
--- the product as a loop works it out, from what it read
-pub product_read : (rho : List Fraction) (e : Entry) (x : Fraction) (r : Result Fraction Refused) → e.place < length rho → x ≡ get_or rho e.place x → r ≡ mul_outcome x e.value → r ≡ mul_outcome (get rho e.place) e.value
-product_read rho e x r l q h = h ∙ ap (λ z. mul_outcome z e.value) (get_is rho e.place x l q)

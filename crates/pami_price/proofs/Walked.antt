@@ -1,17 +1,20 @@
 -- The entries of a slice, put behind others variable by variable; and slices one after the other.
-use Rattle.std.proofs.Common.{◌≡◌, ℕ, suc, ◌+◌, ◌-◌, ◌<◌, ◌≤◌, true, false, cond, List, [], ◌∷◌, ◌++◌, length, get_or, refl, sym, ap, ◌∙◌, arith, Result, Ok, Err}
-use Rattle.std.proofs.lemmas.List.{append_assoc, append-nil, get_or_default}
+use Rattle.std.proofs.Common.{◌≡◌, ℕ, suc, ◌+◌, ◌-◌, ◌<◌, true, false, cond, List, [], ◌∷◌, ◌++◌, length, get_or, refl, sym, ap, ◌∙◌, arith, Result, Ok, Err}
+use Rattle.std.proofs.lemmas.List.{append_assoc, get_or_default}
+use Rattle.std.specs.Global.{Vec}
 use Rattle.pami_algebra.specs.Fraction.{Fraction}
 use Rattle.pami_frac.specs.Signs.{is_zero}
 use Rattle.pami_frac.specs.declared.arithmetic.Refused.{Refused}
 use Rattle.pami_frac.specs.declared.list.Entry.{Entry}
 use Rattle.pami_script.specs.Script.{then}
 use Rattle.pami_vec.specs.Scripts.{dot_script}
-use Rattle.pami_vec.specs.declared.list.Stand.{Stand}
+use Rattle.pami_theory.specs.declared.words.Stand.{Stand}
 use Rattle.pami_price.specs.Slices.{column_at, is_nonbasic_at, with_first, entries_script, slice_script, slices, then_slice, then_more, slices_script}
 use Rattle.pami_frac.specs.declared.fault.Fault.{Fault}
 use Rattle.pami_frac.specs.declared.fault.Fault.TheVariants as faults
-use Rattle.pami_price.specs.Follow.{onto, FollowsEntries, FollowsOnto, in_slice}
+use Rattle.std.specs.Global.{Vec}
+use Rattle.pami_frac.specs.Answers.{FollowsBy}
+use Rattle.pami_price.specs.Follow.{onto, FollowsOnto, in_slice}
 use Rattle.pami_price.specs.declared.price.SliceRefused.{SliceRefused}
 
 -- what is left of a slice from v on
@@ -85,11 +88,6 @@ entry_stops columns stands rho last v c d old r out i h g l m j =
     onto_stops old r d (i ∙ ap (onto out) (left_nonbasic columns stands rho last v h g
     ∙ ap (λ x. then x (λ alpha. then (left columns stands rho last (v + 1)) (λ es. Ok (with_first v alpha es)))) (ap (dot_script rho) (column_read columns v c l m) ∙ sym j)))
 
-pub left_ends : (columns : List (List Fraction)) (stands : List Stand) (rho : List Fraction) (last v : ℕ) (r : Result (List Entry) Refused) (out : List Entry) → r ≡ onto out (left columns stands rho last v) → last ≤ v → r ≡ Ok out
-left_ends columns stands rho last v r out i h =
-    let e : last - v ≡ 0 = omega arith in
-    i ∙ ap (λ n. onto out (entries_script columns stands rho n v)) e ∙ ap (λ (xs : List Entry). Ok xs) (append-nil out)
-
 -- ---- slices one after the other
 -- what is left from a slice on
 abbrev pub slices_left : List (List Fraction) → List Stand → List Fraction → ℕ → Result (List Entry) SliceRefused
@@ -120,12 +118,6 @@ slice_stops columns stands rho slice out d r i h e =
     i ∙ ap (onto out) (slices_one columns stands rho slice h ∙ ap (λ s. then_slice slice s (λ es. then_more es (slices_left columns stands rho (slice + 1)))) e)
 
 pub fault_follows : (columns : List (List Fraction)) (stands : List Stand) (rho : List Fraction) (slice : ℕ) (out new : List Entry) (fault : Fault Refused) (r : Result (List Entry) SliceRefused) →
-    r ≡ onto out (slices_left columns stands rho slice) → slice < slices (length columns) → FollowsOnto {A = Unit {0}} (slice_script columns stands rho slice) out new (Err fault) → FollowsEntries r (Err (in_slice slice fault))
+    r ≡ onto out (slices_left columns stands rho slice) → slice < slices (length columns) → FollowsOnto {A = Unit {0}} (slice_script columns stands rho slice) out new (Err fault) → FollowsBy {B = Vec Entry} (λ (es : Vec Entry). es.items) r (Err (in_slice slice fault))
 fault_follows columns stands rho slice out new (faults.Named d) r i h e = slice_stops columns stands rho slice out d r i h e
 fault_follows columns stands rho slice out new faults.OutOfMemory r i h e = tt
-
-pub slices_end : (columns : List (List Fraction)) (stands : List Stand) (rho : List Fraction) (slice : ℕ) (out : List Entry) (r : Result (List Entry) SliceRefused) →
-    r ≡ onto out (slices_left columns stands rho slice) → slices (length columns) ≤ slice → r ≡ Ok out
-slices_end columns stands rho slice out r i h =
-    let e : slices (length columns) - slice ≡ 0 = omega arith in
-    i ∙ ap (λ n. onto out (slices_script columns stands rho n slice)) e ∙ ap (λ (xs : List Entry). Ok xs) (append-nil out)

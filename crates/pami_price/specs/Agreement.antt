@@ -7,22 +7,15 @@ use Rattle.pami_linear.specs.Lists.{get}
 use Rattle.pami_theory.specs.Form.{Form, variables, coefficient}
 use Rattle.pami_theory.specs.Basis as theory
 use Rattle.pami_method.specs.Scripts as method
-use Rattle.pami_vec.specs.declared.list.Stand.{Stand}
-use Rattle.pami_vec.specs.declared.list.Stand.TheVariants.{Basic, Lower, Upper, Zero}
+use Rattle.pami_theory.specs.declared.words.Stand.{Stand}
+use Rattle.pami_theory.specs.declared.words.Stand.TheVariants.{Basic}
 use Rattle.pami_price.specs.Slices.{column_at, with_first}
-
--- a stand as the theory has it
-abbrev pub theory_stand : Stand → theory.Stand
-theory_stand Basic = theory.Basic
-theory_stand Lower = theory.Lower
-theory_stand Upper = theory.Upper
-theory_stand Zero = theory.Zero
 
 -- the columns of all variables, by row, and where they stand
 pub record AreListed (f : Form) (b : theory.Basis) (columns : List (List Fraction)) (stands : List Stand) : Type 0 where
   pub count : length columns ≡ variables f
   pub column : (v : ℕ) → v < variables f → (i : ℕ) → i < f.rows → get (column_at columns v) i ≡ coefficient f v i
-  pub stand : (v : ℕ) → v < variables f → theory.stand_at b v ≡ theory_stand (slice_index_or stands v Basic)
+  pub stand : (v : ℕ) → v < variables f → theory.stand_at b v ≡ slice_index_or stands v Basic
 
 -- these variables with these values, but for values 0
 abbrev pub entries_at : List ℕ → List Fraction → List Entry

@@ -1,24 +1,17 @@
--- How the answers of this crate's calls follow their scripts; want of memory is free in each.
+-- How the answer of a call that puts entries behind old ones follows its script.
 use Rattle.std.specs.Prelude.{◌≡◌, ℕ, List, ◌++◌, Result, Ok, Err}
-use Rattle.std.specs.Global.{Vec}
 use Rattle.pami_frac.specs.declared.arithmetic.Refused.{Refused}
 use Rattle.pami_frac.specs.declared.fault.Fault.{Fault}
 use Rattle.pami_frac.specs.declared.fault.Fault.TheVariants as faults
 use Rattle.pami_frac.specs.declared.list.Entry.{Entry}
 use Rattle.pami_price.specs.declared.price.SliceRefused.{SliceRefused}
 
--- Ok exactly with the script's value, a refusal exactly with its first refused operation (and its slice, where `E` has one)
-abbrev pub FollowsEntries : {E : Type 0} → Result (List Entry) E → Result (Vec Entry) (Fault E) → Type 0
-FollowsEntries script (Ok es) = script ≡ Ok es.items
-FollowsEntries script (Err (faults.Named e)) = script ≡ Err e
-FollowsEntries script (Err faults.OutOfMemory) = Unit {0}
-
 -- these entries, and behind them those of a script
 abbrev pub onto : {E : Type 0} → List Entry → Result (List Entry) E → Result (List Entry) E
 onto out (Ok es) = Ok (out ++ es)
 onto out (Err e) = Err e
 
--- the same for entries that are put behind old ones
+-- the entries have become the old ones with the script's behind; want of memory is free
 abbrev pub FollowsOnto : {E A : Type 0} → Result (List Entry) E → List Entry → List Entry → Result A (Fault E) → Type 0
 FollowsOnto script old new (Ok x) = onto old script ≡ Ok new
 FollowsOnto script old new (Err (faults.Named e)) = script ≡ Err e

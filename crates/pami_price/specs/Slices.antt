@@ -1,6 +1,6 @@
 -- The pivot row by slices of 64 variables. Columns go by variable and then by row, stands by variable, and rho, the row of
 -- the inverse, by row.
-use Rattle.std.specs.Prelude.{ℕ, zero, suc, ◌+◌, ◌*◌, ◌-◌, ◌/◌, Bool, true, false, cond, List, [], ◌∷◌, ◌++◌, length, Result, Ok, Err, slice_index_or}
+use Rattle.std.specs.Prelude.{ℕ, zero, suc, ◌+◌, ◌*◌, ◌-◌, ◌/◌, Bool, cond, List, [], ◌∷◌, ◌++◌, length, Result, Ok, Err, slice_index_or}
 use Rattle.pami_algebra.specs.Fraction.{Fraction}
 use Rattle.pami_frac.specs.Signs.{is_zero}
 use Rattle.pami_frac.specs.declared.arithmetic.Refused.{Refused}
@@ -8,19 +8,14 @@ use Rattle.pami_frac.specs.declared.list.Entry.{Entry}
 use Rattle.pami_script.specs.Script.{then}
 use Rattle.pami_theory.specs.Weights.{lesser}
 use Rattle.pami_vec.specs.Scripts.{dot_script}
-use Rattle.pami_vec.specs.declared.list.Stand.{Stand}
-use Rattle.pami_vec.specs.declared.list.Stand.TheVariants.{Basic, Lower, Upper, Zero}
+use Rattle.pami_theory.specs.declared.words.Stand.{Stand}
+use Rattle.pami_theory.specs.declared.words.Stand.TheVariants.{Basic}
+use Rattle.pami_method.specs.Scripts.{is_nonbasic}
 use Rattle.pami_price.specs.declared.price.SliceRefused.{SliceRefused}
 
 -- the column of a variable
 abbrev pub column_at : List (List Fraction) → ℕ → List Fraction
 column_at columns v = slice_index_or columns v []
-
-abbrev pub is_nonbasic : Stand → Bool
-is_nonbasic Basic = false
-is_nonbasic Lower = true
-is_nonbasic Upper = true
-is_nonbasic Zero = true
 
 -- the variable isn't in the basis
 abbrev pub is_nonbasic_at : List Stand → ℕ → Bool

@@ -11,7 +11,7 @@ ghost use Rattle.pami_theory.specs.Basis.{Basis, stand_at};
 ghost use Rattle.pami_theory.specs.Ratio.{row_entry};
 ghost use Rattle.pami_method.specs.Scripts.{price_script, nonbasic_in, is_nonbasic};
 ghost use Rattle.pami_vec.specs.Entries.{NoZeros};
-ghost use Rattle.pami_vec.specs.declared.list.Stand.{Stand};
+ghost use Rattle.pami_theory.specs.declared.words.Stand.{Stand};
 ghost use Rattle.pami_price.specs.Slices.{slice_script, row_script};
 ghost use Rattle.pami_price.specs.Agreement.{AreListed, entries_at, nonzero_entries, all_nonbasic};
 

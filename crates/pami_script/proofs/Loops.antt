@@ -8,7 +8,8 @@ use Rattle.pami_frac.specs.Arithmetic.{add_outcome, sub_outcome, mul_outcome}
 use Rattle.pami_frac.specs.declared.arithmetic.Refused.{Refused}
 use Rattle.pami_frac.specs.declared.list.Entry.{Entry}
 use Rattle.pami_script.specs.Script.{then, each, each_entry, add_product, sub_product}
-use Rattle.pami_script.specs.Dense.{get, Rising}
+use Rattle.pami_linear.specs.Lists.{get}
+use Rattle.pami_script.specs.Dense.{Rising}
 use Rattle.pami_script.proofs.Scripts.{then_go, then_stop}
 
 -- ---- one step of a sum of products
@@ -43,9 +44,6 @@ each_goes s n i step a b e h f = e ∙ each_one n i step a h ∙ then_go (step i
 
 pub each_stops : {A : Type 0} (s : Result A Refused) (n i : ℕ) (step : ℕ → A → Result A Refused) (a : A) (r : Refused) → s ≡ each (n - i) i step a → i < n → step i a ≡ Err r → Err r ≡ s
 each_stops s n i step a r e h f = sym (e ∙ each_one n i step a h ∙ then_stop (step i a) (λ b. each (n - (i + 1)) (i + 1) step b) r f)
-
-pub each_ends : {A : Type 0} (s : Result A Refused) (n i : ℕ) (step : ℕ → A → Result A Refused) (a : A) → s ≡ each (n - i) i step a → n ≤ i → Ok a ≡ s
-each_ends s n i step a e h = let f : n - i ≡ 0 = omega arith in sym (e ∙ ap (λ m. each m i step a) f)
 
 -- ---- a loop over entries that has come to the entry of index i
 pub entry_one : {A : Type 0} (es : List Entry) (i : ℕ) (x : Entry) (step : Entry → A → Result A Refused) (a : A) → i < length es → x ≡ get_or es i x →

@@ -10,7 +10,8 @@ use Rattle.pami_frac.specs.declared.arithmetic.Refused.{Refused}
 use Rattle.pami_frac.specs.declared.list.Entry.{Entry}
 use Rattle.pami_frac.proofs.Outcomes.{zero_mul_fits, mul_zero_fits, add_zero_fits, sub_zero_fits}
 use Rattle.pami_script.specs.Script.{then, add_product, sub_product, each, each_entry, add_dot, sub_dot, add_entries, add_entries_right, sub_entries, sub_entries_right}
-use Rattle.pami_script.specs.Dense.{at, dense_from, dense, Rising, LeavesOut, get}
+use Rattle.pami_linear.specs.Lists.{get}
+use Rattle.pami_script.specs.Dense.{at, dense_from, dense, Rising, LeavesOut}
 use Rattle.pami_script.proofs.Scripts.{then_same, then_go}
 
 -- ---- the heart: places that change nothing may be left out

@@ -1,15 +1,11 @@
 -- A vector of fractions kept as the entries that may differ from 0, by rising place.
-use Rattle.std.specs.Prelude.{◌≡◌, ℕ, ◌<◌, ◌≤◌, zero, suc, List, [], ◌∷◌, cond, Result, Ok, slice_index_or}
+use Rattle.std.specs.Prelude.{◌≡◌, ℕ, ◌<◌, ◌≤◌, zero, suc, List, [], ◌∷◌, cond, Result, Ok}
 use lib.IntN.{pos}
 use lib.Dec.{eqb}
 use Rattle.pami_algebra.specs.Fraction.{Fraction}
 use Rattle.pami_algebra.specs.Operations.{of_int}
 use Rattle.pami_frac.specs.declared.arithmetic.Refused.{Refused}
 use Rattle.pami_frac.specs.declared.list.Entry.{Entry}
-
--- the member of a list, 0 past its end
-abbrev pub get : List Fraction → ℕ → Fraction
-get xs i = slice_index_or xs i (of_int (pos 0))
 
 -- the value at a place, 0 where no entry is there
 abbrev pub at : List Entry → ℕ → Fraction

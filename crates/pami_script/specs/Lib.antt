@@ -1,4 +1,3 @@
 pub mod Script
 pub mod Dense
 pub mod Expression
-pub mod Follows

@@ -1,14 +1,10 @@
 -- A script is a list of single operations. Its outcome is its value, or its first operation that doesn't fit.
-use Rattle.std.specs.Prelude.{ℕ, zero, suc, List, [], ◌∷◌, Result, Ok, Err}
+use Rattle.std.specs.Prelude.{ℕ, zero, suc, List, [], ◌∷◌, Result, Ok}
 use Rattle.pami_algebra.specs.Fraction.{Fraction}
+pub use Rattle.pami_frac.specs.Answers.{then}
 use Rattle.pami_frac.specs.Arithmetic.{add_outcome, sub_outcome, mul_outcome}
 use Rattle.pami_frac.specs.declared.arithmetic.Refused.{Refused}
 use Rattle.pami_frac.specs.declared.list.Entry.{Entry}
-
--- goes on with a value, and stops at a refusal
-abbrev pub then : {A B : Type 0} → Result A Refused → (A → Result B Refused) → Result B Refused
-then (Ok x) f = f x
-then (Err r) f = Err r
 
 -- t := t + x y, the product first
 abbrev pub add_product : Fraction → Fraction → Fraction → Result Fraction Refused

@@ -5,7 +5,8 @@ ghost use Rattle.pami_algebra.specs.Fraction.{Fraction};
 ghost use Rattle.pami_algebra.specs.Operations.{of_int};
 ghost use Rattle.pami_frac.specs.declared.arithmetic.Refused.{Refused};
 ghost use Rattle.pami_frac.specs.declared.list.Entry.{Entry};
-ghost use Rattle.pami_script.specs.Dense.{at, dense, get, Rising};
+ghost use Rattle.pami_linear.specs.Lists.{get};
+ghost use Rattle.pami_script.specs.Dense.{at, dense, Rising};
 ghost use Rattle.pami_script.specs.Script.{each, each_entry, add_product, sub_product, add_dot, sub_dot, add_entries, add_entries_right, sub_entries, sub_entries_right};
 
 /// A product with a zero factor, added or taken off, changes nothing, whatever the other numbers are.

@@ -3,7 +3,7 @@
 ghost use Rattle.std.specs.Prelude.{◌≡◌, ℕ, ◌+◌, ◌<◌, List, length, Result, Ok};
 ghost use Rattle.pami_algebra.specs.Fraction.{Fraction};
 ghost use Rattle.pami_frac.specs.declared.arithmetic.Refused.{Refused};
-ghost use Rattle.pami_script.specs.Dense.{get};
+ghost use Rattle.pami_linear.specs.Lists.{get};
 ghost use Rattle.pami_script.specs.Script.{each_member};
 
 /// A script over members that isn't refused gives as many members, and each is what its own step gives.

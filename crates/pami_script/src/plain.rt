@@ -1,10 +1,36 @@
-//! The plain programs of sums of products, over all places and over entries alone. Other bodies are compared with these.
+//! One step of a sum of products, and the plain programs of such sums, over all places and over entries alone. Other bodies
+//! are compared with these.
 
 ghost use Rattle.std.specs.Prelude.{◌≡◌, ℕ, ◌<◌, length, List};
-ghost use Rattle.pami_script.specs.Dense.{at, get, Rising};
-ghost use Rattle.pami_script.specs.Script.{add_dot, add_entries};
+ghost use Rattle.pami_linear.specs.Lists.{get};
+ghost use Rattle.pami_script.specs.Dense.{at, Rising};
+ghost use Rattle.pami_script.specs.Script.{add_product as the_add_product, sub_product as the_sub_product, add_dot, add_entries};
 
 use pami_frac::{Entry, Frac, Refused};
+
+/// `t + x y`, the product first.
+///
+/// # Errors
+///
+/// `Refused` exactly where the product or the sum doesn't fit: the first such.
+pub fn add_product(t: Frac, x: Frac, y: Frac) -> Result<Frac, Refused>
+    ensures { result ≡ the_add_product t x y }
+{
+    let product = x.mul(y)?;
+    t.add(product)
+}
+
+/// `t - x y`, the product first.
+///
+/// # Errors
+///
+/// `Refused` exactly where the product or the difference doesn't fit: the first such.
+pub fn sub_product(t: Frac, x: Frac, y: Frac) -> Result<Frac, Refused>
+    ensures { result ≡ the_sub_product t x y }
+{
+    let product = x.mul(y)?;
+    t.sub(product)
+}
 
 /// `t + u_0 v_0 + ..` over all places of two lists of one length, each product with `u` left, places ascending.
 ///
@@ -17,14 +43,7 @@ pub fn add_products(t: Frac, us: &[Frac], vs: &[Frac]) -> Result<Frac, Refused>
 {
     let mut total = t;
     for (i, u) in us.iter().enumerate() {
-        let product = match u.mul(vs[i]) {
-            Ok(product) => product,
-            Err(refused) => return Err(refused),
-        };
-        total = match total.add(product) {
-            Ok(sum) => sum,
-            Err(refused) => return Err(refused),
-        };
+        total = add_product(total, *u, vs[i])?;
     }
     Ok(total)
 }
@@ -40,14 +59,7 @@ pub fn add_sparse(t: Frac, us: &[Entry], vs: &[Frac]) -> Result<Frac, Refused>
 {
     let mut total = t;
     for entry in us {
-        let product = match entry.value.mul(vs[entry.place as usize]) {
-            Ok(product) => product,
-            Err(refused) => return Err(refused),
-        };
-        total = match total.add(product) {
-            Ok(sum) => sum,
-            Err(refused) => return Err(refused),
-        };
+        total = add_product(total, entry.value, vs[entry.place as usize])?;
     }
     Ok(total)
 }

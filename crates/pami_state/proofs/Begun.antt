@@ -1,7 +1,7 @@
 -- The starting state: its lists are those of the starting basis, and its values those that the script of sums has.
 use Rattle.std.proofs.Common.{◌≡◌, ℕ, suc, ◌+◌, ◌-◌, ◌<◌, List, [], ◌∷◌, length, map, take, get_or, refl, sym, ap, ◌∙◌, subst, arith, nat_lt, None, Result, Ok, Err}
 use Rattle.std.proofs.lemmas.Bool.{lt-ltb, cond-true}
-use Rattle.std.proofs.lemmas.List.{get_or-take, length-map, length-take-le, ext_get_or}
+use Rattle.std.proofs.lemmas.List.{get_or-take, length-take-le, ext_get_or}
 use Rattle.std.specs.List.{range_with_len}
 use Rattle.pami_algebra.specs.Fraction.{Fraction}
 use Rattle.pami_algebra.proofs.Field.{nil_add_f}
@@ -12,16 +12,15 @@ use Rattle.pami_frac.specs.declared.arithmetic.Refused.{Refused}
 use Rattle.pami_frac.specs.declared.list.Bounds.{Bounds}
 use Rattle.pami_frac.specs.declared.fault.Fault.{Fault}
 use Rattle.pami_frac.specs.declared.fault.Fault.TheVariants as faults
-use Rattle.pami_frac.specs.Answers.{Follows}
-use Rattle.pami_script.specs.Follows.{FollowsScript}
+use Rattle.pami_frac.specs.Answers.{Follows, FollowsBy}
 use Rattle.pami_script.specs.Script.{then, each_member, add_dot, add_product}
 use Rattle.pami_script.proofs.Scripts.{each_same}
 use Rattle.pami_script.proofs.Members.{length_members, member_is}
 use Rattle.pami_script.proofs.Values.{add_dot_value}
-use Rattle.pami_vec.specs.declared.list.Stand.{Stand}
+use Rattle.pami_theory.specs.declared.words.Stand.{Stand}
 use Rattle.pami_theory.specs.Form.{Form, limits, entry, variables, row_variable, zero_f}
-use Rattle.pami_theory.specs.Basis as theory
-use Rattle.pami_theory.specs.Basis.{Basic, Zero, Basis, head_at, stand_at}
+use Rattle.pami_theory.specs.declared.words.Stand.TheVariants.{Basic, Zero}
+use Rattle.pami_theory.specs.Basis.{Basis, stand_at}
 use Rattle.pami_theory.specs.Fresh.{Fresh, IsFresh, standing_value, value_at_place}
 use Rattle.pami_theory.specs.Start.{stand_by, starting_stand, starting_basis}
 use Rattle.pami_theory.proofs.Forms.{by_variable, point_rows}
@@ -30,11 +29,11 @@ use Rattle.pami_theory.proofs.Places.{standing_is}
 use Rattle.pami_theory.proofs.Solved.{has_fresh, start_regular}
 use Rattle.pami_theory.proofs.Tables.{tabled, tabled_length, tabled_at}
 use Rattle.pami_method.specs.Scripts.{each_number, start_script}
-use Rattle.pami_method.specs.Place.{refusal}
+use Rattle.pami_method.specs.Task.{refusal}
 use Rattle.pami_method.specs.Phases.{start_refused}
 use Rattle.pami_state.specs.declared.state.State.{State}
 use Rattle.pami_state.specs.Columns.{rows_of, columns_of, form_by, IsForm}
-use Rattle.pami_state.specs.State.{stand_of, basis_of, values_by_place, IsSolvedAfresh}
+use Rattle.pami_state.specs.State.{basis_of, values_by_place, IsSolvedAfresh}
 use Rattle.pami_state.specs.Sums.{sum_at, stand_by_lists, standing_at, AreSums, sums_script}
 use Rattle.pami_state.proofs.Listed.{row_stands}
 use Rattle.pami_state.proofs.Formed.{variables_are, cost_of_is}
@@ -56,7 +55,7 @@ stands_as_form columns bounds costs =
     (λ i l. sym (row_stands n bounds costs (n + i) (omega arith)) ∙ sym (start_row f i))
 
 pub stands_are : (columns : List (List Fraction)) (bounds : List Bounds) (costs : List Fraction) (ss : List Stand) → IsForm columns bounds costs →
-    map stand_of ss ≡ map (stand_by_lists (columns_of columns) bounds costs) (range_with_len 0 (length bounds)) → map stand_of ss ≡ (starting_basis (form_by columns bounds costs)).stands
+    ss ≡ map (stand_by_lists (columns_of columns) bounds costs) (range_with_len 0 (length bounds)) → ss ≡ (starting_basis (form_by columns bounds costs)).stands
 stands_are columns bounds costs ss h e =
     let f : Form = form_by columns bounds costs in
     let n : length bounds ≡ variables f = h.as_many_bounds ∙ sym (variables_are columns bounds costs h) in
@@ -64,19 +63,19 @@ stands_are columns bounds costs ss h e =
     ∙ tabled_same (variables f) (stand_by_lists (columns_of columns) bounds costs) (starting_stand f) Zero (stands_as_form columns bounds costs)
 
 pub basis_is : (columns : List (List Fraction)) (bounds : List Bounds) (costs : List Fraction) (head : List ℕ) (ss : List Stand) → head ≡ map (λ i. columns_of columns + i) (range_with_len 0 (rows_of columns)) →
-    map stand_of ss ≡ (starting_basis (form_by columns bounds costs)).stands → record { head = head; stands = map stand_of ss } ≡ starting_basis (form_by columns bounds costs)
+    ss ≡ (starting_basis (form_by columns bounds costs)).stands → record { head = head; stands = ss } ≡ starting_basis (form_by columns bounds costs)
 basis_is columns bounds costs head ss e h =
-    ap (λ (vs : List ℕ). record { head = vs; stands = map stand_of ss }) e
-    ∙ ap (λ (ts : List theory.Stand). record { head = (starting_basis (form_by columns bounds costs)).head; stands = ts }) h
+    ap (λ (vs : List ℕ). record { head = vs; stands = ss }) e
+    ∙ ap (λ (ts : List Stand). record { head = (starting_basis (form_by columns bounds costs)).head; stands = ts }) h
 
 -- ---- the values of the columns are those at which they stand
-column_value : (columns : List (List Fraction)) (bounds : List Bounds) (costs : List Fraction) (ss : List Stand) (s : Fresh) (j : ℕ) → map stand_of ss ≡ (starting_basis (form_by columns bounds costs)).stands →
+column_value : (columns : List (List Fraction)) (bounds : List Bounds) (costs : List Fraction) (ss : List Stand) (s : Fresh) (j : ℕ) → ss ≡ (starting_basis (form_by columns bounds costs)).stands →
     IsFresh (form_by columns bounds costs) (starting_basis (form_by columns bounds costs)) s → j < columns_of columns → standing_at bounds ss j ≡ get s.values j
 column_value columns bounds costs ss s j e h l =
     let f : Form = form_by columns bounds costs in
     let b : Basis = starting_basis f in
     let m : j < variables f = omega arith in
-    ap (λ (ts : List theory.Stand). standing_value (limits f j) (get_or ts j Zero)) e
+    ap (λ (ts : List Stand). standing_value (limits f j) (get_or ts j Zero)) e
     ∙ sym (standing_is (limits f j) (stand_at b j) (get s.values j) (λ k. column_not_basic f j l (sym (start_stand f j m) ∙ k)) (h.values.nonbasic j m))
 
 -- ---- the sums are the script
@@ -88,7 +87,7 @@ members_number (s ∷ ss) i k step h =
     ∙ ap (λ r. then (step k) (λ y. then r (λ ys. Ok (y ∷ ys))))
     (members_number ss (suc i) (suc k) step (λ j l. let g : k + suc j ≡ suc k + j = omega arith in h (suc j) (omega arith) ∙ ap step g))
 
-pub script_is : (columns : List (List Fraction)) (bounds : List Bounds) (costs : List Fraction) (ss : List Stand) (sums : List (Result Fraction Refused)) (s : Fresh) → map stand_of ss ≡ (starting_basis (form_by columns bounds costs)).stands →
+pub script_is : (columns : List (List Fraction)) (bounds : List Bounds) (costs : List Fraction) (ss : List Stand) (sums : List (Result Fraction Refused)) (s : Fresh) → ss ≡ (starting_basis (form_by columns bounds costs)).stands →
     IsFresh (form_by columns bounds costs) (starting_basis (form_by columns bounds costs)) s → AreSums (take (columns_of columns) columns) (rows_of columns) (length (take (columns_of columns) columns)) (standing_at bounds ss) sums →
     sums_script sums ≡ start_script (form_by columns bounds costs) (get s.values)
 script_is columns bounds costs ss sums s e h a =
@@ -105,12 +104,12 @@ script_is columns bounds costs ss sums s e h a =
 
 -- ---- as the code has them: n columns and m rows
 abbrev pub StandsMade : List Bounds → List Fraction → List Stand → ℕ → Type 0
-StandsMade bounds costs ss n = map stand_of ss ≡ map (stand_by_lists n bounds costs) (range_with_len 0 (length bounds))
+StandsMade bounds costs ss n = ss ≡ map (stand_by_lists n bounds costs) (range_with_len 0 (length bounds))
 
 abbrev pub SumsMade : List (List Fraction) → List Bounds → List Stand → List (Result Fraction Refused) → ℕ → Type 0
 SumsMade columns bounds ss sums m = AreSums (take (length columns - m) columns) m (length (take (length columns - m) columns)) (standing_at bounds ss) sums
 
-pub stands_made : (columns : List (List Fraction)) (bounds : List Bounds) (costs : List Fraction) (ss : List Stand) (m : ℕ) → IsForm columns bounds costs → m ≡ rows_of columns → StandsMade bounds costs ss (length columns - m) → map stand_of ss ≡ (starting_basis (form_by columns bounds costs)).stands
+pub stands_made : (columns : List (List Fraction)) (bounds : List Bounds) (costs : List Fraction) (ss : List Stand) (m : ℕ) → IsForm columns bounds costs → m ≡ rows_of columns → StandsMade bounds costs ss (length columns - m) → ss ≡ (starting_basis (form_by columns bounds costs)).stands
 stands_made columns bounds costs ss m h e k = stands_are columns bounds costs ss h (subst (λ i. StandsMade bounds costs ss (length columns - i)) e k)
 
 pub sums_made : (columns : List (List Fraction)) (bounds : List Bounds) (ss ts : List Stand) (sums lent : List (Result Fraction Refused)) (m : ℕ) → m ≡ rows_of columns → ts ≡ ss → lent ≡ sums → SumsMade columns bounds ts sums m → SumsMade columns bounds ss lent (rows_of columns)
@@ -124,25 +123,25 @@ head_made columns head m e k = subst (λ j. head ≡ map (λ i. length columns -
 
 -- as many stands as bounds
 pub stands_made_length : (bounds : List Bounds) (costs : List Fraction) (ss : List Stand) (n : ℕ) → StandsMade bounds costs ss n → length ss ≡ length bounds
-stands_made_length bounds costs ss n k = sym (length-map ss stand_of) ∙ ap length k ∙ tabled_length (length bounds) (stand_by_lists n bounds costs)
+stands_made_length bounds costs ss n k = ap length k ∙ tabled_length (length bounds) (stand_by_lists n bounds costs)
 
 -- ---- what the script answers
 pub script_fits : (columns : List (List Fraction)) (bounds : List Bounds) (costs : List Fraction) (s : Fresh) (sums : List (Result Fraction Refused)) (values : List Fraction) → sums_script sums ≡ start_script (form_by columns bounds costs) (get s.values) → sums_script sums ≡ Ok values →
     start_refused (form_by columns bounds costs) s ≡ None
 script_fits columns bounds costs s sums values e h = ap refusal (sym e ∙ h)
 
-fault_follows : (script : Result (List Fraction) Refused) (e : Fault Refused) → FollowsScript {A = List Fraction} script (Err e) → Follows {A = State} (refusal script) (Err e)
+fault_follows : (script : Result (List Fraction) Refused) (e : Fault Refused) → FollowsBy {A = List Fraction} {B = List Fraction} (λ v. v) script (Err e) → Follows {A = State} (refusal script) (Err e)
 fault_follows script (faults.Named r) h = ap refusal h
 fault_follows script faults.OutOfMemory h = tt
 
 pub script_refused : (columns : List (List Fraction)) (bounds : List Bounds) (costs : List Fraction) (s : Fresh) (sums : List (Result Fraction Refused)) (r : Result State (Fault Refused)) (y e : Fault Refused) → sums_script sums ≡ start_script (form_by columns bounds costs) (get s.values) →
-    r ≡ Err y → y ≡ e → FollowsScript {A = List Fraction} (sums_script sums) (Err e) → Follows (start_refused (form_by columns bounds costs) s) r
+    r ≡ Err y → y ≡ e → FollowsBy {A = List Fraction} {B = List Fraction} (λ v. v) (sums_script sums) (Err e) → Follows (start_refused (form_by columns bounds costs) s) r
 script_refused columns bounds costs s sums r y e k g h f =
     subst (Follows {A = State} (start_refused (form_by columns bounds costs) s)) (sym (g ∙ ap Err h))
     (subst (λ (q : Result (List Fraction) Refused). Follows {A = State} (refusal q) (Err e)) k (fault_follows (sums_script sums) e f))
 
 -- ---- the values are those of the starting basis
-row_value : (columns : List (List Fraction)) (bounds : List Bounds) (costs : List Fraction) (ss : List Stand) (sums : List (Result Fraction Refused)) (values : List Fraction) (s : Fresh) (i : ℕ) → map stand_of ss ≡ (starting_basis (form_by columns bounds costs)).stands →
+row_value : (columns : List (List Fraction)) (bounds : List Bounds) (costs : List Fraction) (ss : List Stand) (sums : List (Result Fraction Refused)) (values : List Fraction) (s : Fresh) (i : ℕ) → ss ≡ (starting_basis (form_by columns bounds costs)).stands →
     IsFresh (form_by columns bounds costs) (starting_basis (form_by columns bounds costs)) s → AreSums (take (columns_of columns) columns) (rows_of columns) (length (take (columns_of columns) columns)) (standing_at bounds ss) sums →
     sums_script sums ≡ Ok values → i < rows_of columns → get values i ≡ value_at_place (starting_basis (form_by columns bounds costs)) s i
 row_value columns bounds costs ss sums values s i e h a k l =
@@ -156,7 +155,7 @@ row_value columns bounds costs ss sums values s i e h a k l =
     ∙ sym (point_rows f (get s.values) h.values.point i l)
     ∙ ap (get s.values) (sym (start_head f i l))
 
-values_are : (columns : List (List Fraction)) (bounds : List Bounds) (costs : List Fraction) (ss : List Stand) (sums : List (Result Fraction Refused)) (values : List Fraction) (s : Fresh) → map stand_of ss ≡ (starting_basis (form_by columns bounds costs)).stands →
+values_are : (columns : List (List Fraction)) (bounds : List Bounds) (costs : List Fraction) (ss : List Stand) (sums : List (Result Fraction Refused)) (values : List Fraction) (s : Fresh) → ss ≡ (starting_basis (form_by columns bounds costs)).stands →
     IsFresh (form_by columns bounds costs) (starting_basis (form_by columns bounds costs)) s → AreSums (take (columns_of columns) columns) (rows_of columns) (length (take (columns_of columns) columns)) (standing_at bounds ss) sums →
     sums_script sums ≡ Ok values → values ≡ values_by_place (form_by columns bounds costs) (starting_basis (form_by columns bounds costs)) s
 values_are columns bounds costs ss sums values s e h a k =

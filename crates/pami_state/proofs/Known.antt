@@ -1,10 +1,8 @@
 -- What is known of a state by its basis.
-use Rattle.std.proofs.Common.{◌≡◌, ℕ, List, [], ◌∷◌, length, map, refl, sym, ap, ◌∙◌, subst}
-use Rattle.std.proofs.lemmas.List.{length-map}
+use Rattle.std.proofs.Common.{◌≡◌, ℕ, List, length, sym, ap, ◌∙◌, subst}
 use Rattle.pami_algebra.specs.Fraction.{Fraction}
 use Rattle.pami_frac.specs.declared.list.Bounds.{Bounds}
-use Rattle.pami_vec.specs.declared.list.Stand.{Stand}
-use Rattle.pami_vec.specs.declared.list.Stand.TheVariants as stands
+use Rattle.pami_theory.specs.declared.words.Stand.{Stand}
 use Rattle.pami_theory.specs.Form.{Form}
 use Rattle.pami_theory.specs.Basis.{Basis, IsBasis}
 use Rattle.pami_theory.specs.Fresh.{Fresh, IsFresh, value_at_place}
@@ -12,46 +10,19 @@ use Rattle.pami_theory.proofs.Solved.{only_fresh}
 use Rattle.pami_theory.proofs.Tables.{tabled_length}
 use Rattle.pami_state.specs.declared.state.State.{State}
 use Rattle.pami_state.specs.Columns.{HasBounds}
-use Rattle.pami_state.specs.State.{stand_of, basis_of, values_by_place, IsSolvedAfresh}
+use Rattle.pami_state.specs.State.{basis_of, values_by_place, IsSolvedAfresh}
 
 -- ---- lengths
 pub values_by_head : (f : Form) (st : State) → IsBasis f (basis_of st) → IsSolvedAfresh f st → length st.values ≡ length st.head
 values_by_head f st s a = ap length a.values ∙ tabled_length f.rows (value_at_place (basis_of st) a.fresh) ∙ sym s.places
 
 pub stands_by_bounds : (f : Form) (bounds : List Bounds) (st : State) → HasBounds f bounds → IsBasis f (basis_of st) → length st.stands ≡ length bounds
-stands_by_bounds f bounds st h s = sym (length-map st.stands stand_of) ∙ s.variables_stand ∙ sym h.by_variable
+stands_by_bounds f bounds st h s = s.variables_stand ∙ sym h.by_variable
 
 pub reduced_by_bounds : (f : Form) (bounds : List Bounds) (st : State) → HasBounds f bounds → IsSolvedAfresh f st → length st.reduced ≡ length bounds
 reduced_by_bounds f bounds st h a = ap length a.reduced ∙ a.solved.reduced_by_variable ∙ sym h.by_variable
 
 -- ---- one basis, one state
-stand_is : (s t : Stand) → stand_of s ≡ stand_of t → s ≡ t
-stand_is stands.Basic stands.Basic e = refl
-stand_is stands.Basic stands.Lower e = absurd (cc)
-stand_is stands.Basic stands.Upper e = absurd (cc)
-stand_is stands.Basic stands.Zero e = absurd (cc)
-stand_is stands.Lower stands.Basic e = absurd (cc)
-stand_is stands.Lower stands.Lower e = refl
-stand_is stands.Lower stands.Upper e = absurd (cc)
-stand_is stands.Lower stands.Zero e = absurd (cc)
-stand_is stands.Upper stands.Basic e = absurd (cc)
-stand_is stands.Upper stands.Lower e = absurd (cc)
-stand_is stands.Upper stands.Upper e = refl
-stand_is stands.Upper stands.Zero e = absurd (cc)
-stand_is stands.Zero stands.Basic e = absurd (cc)
-stand_is stands.Zero stands.Lower e = absurd (cc)
-stand_is stands.Zero stands.Upper e = absurd (cc)
-stand_is stands.Zero stands.Zero e = refl
-
-stands_are : (ss ts : List Stand) → map stand_of ss ≡ map stand_of ts → ss ≡ ts
-stands_are [] [] e = refl
-stands_are [] (t ∷ ts) e = absurd (cc)
-stands_are (s ∷ ss) [] e = absurd (cc)
-stands_are (s ∷ ss) (t ∷ ts) e =
-    let h : stand_of s ≡ stand_of t = cc in
-    let k : map stand_of ss ≡ map stand_of ts = cc in
-    ap (λ z. z ∷ ss) (stand_is s t h) ∙ ap (λ zs. t ∷ zs) (stands_are ss ts k)
-
 one_fresh : (f : Form) (a b : State) → IsBasis f (basis_of a) → basis_of a ≡ basis_of b → (x : IsSolvedAfresh f a) (y : IsSolvedAfresh f b) → x.fresh ≡ y.fresh
 one_fresh f a b s e x y = only_fresh f (basis_of a) x.fresh y.fresh s x.solved (subst (λ c. IsFresh f c y.fresh) (sym e) y.solved)
 
@@ -76,5 +47,5 @@ same_state a b h s v d w p =
 
 pub one_state : (f : Form) (a b : State) → IsBasis f (basis_of a) → basis_of a ≡ basis_of b → IsSolvedAfresh f a → IsSolvedAfresh f b → a.weights ≡ b.weights → a.pivots ≡ b.pivots → a ≡ b
 one_state f a b s e x y w p =
-    same_state a b (ap (λ (c : Basis). c.head) e) (stands_are a.stands b.stands (ap (λ (c : Basis). c.stands) e))
+    same_state a b (ap (λ (c : Basis). c.head) e) (ap (λ (c : Basis). c.stands) e)
     (one_values f a b s e x y) (one_reduced f a b s e x y) w p

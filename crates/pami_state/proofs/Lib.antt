@@ -7,3 +7,4 @@ pub mod Formed
 pub mod Begun
 pub mod Small
 pub mod Known
+pub mod Values

@@ -1,6 +1,6 @@
 -- The signs of reduced costs as they are read from a state's lists, and what they say of its basis.
-use Rattle.std.proofs.Common.{◌≡◌, ◌↔◌, ℕ, ◌<◌, List, length, map, get_or, refl, sym, ap, ◌∙◌, subst, arith, Bool, true, false, IsTrue}
-use Rattle.std.proofs.lemmas.List.{get_or-map}
+use Rattle.std.proofs.Common.{◌≡◌, ◌↔◌, ℕ, ◌<◌, List, length, get_or, refl, sym, ap, ◌∙◌, subst, arith, Bool, true, false, IsTrue}
+use Rattle.std.proofs.lemmas.List.{get_or_default}
 use lib.IntN.{pos}
 use Rattle.pami_algebra.specs.Fraction.{Fraction}
 use Rattle.pami_algebra.specs.Operations.{of_int, ◌<ᶠ◌}
@@ -9,17 +9,17 @@ use Rattle.pami_algebra.proofs.Strict.{le_by_not_f}
 use Rattle.pami_linear.specs.Lists.{get}
 use Rattle.pami_frac.specs.declared.list.Bounds.{Bounds}
 use Rattle.pami_script.proofs.Loops.{get_is}
-use Rattle.pami_vec.specs.declared.list.Stand.{Stand}
-use Rattle.pami_theory.specs.Form.{Form, Limits, limits, variables, row_variable, zero_f}
-use Rattle.pami_theory.specs.Basis as theory
-use Rattle.pami_theory.specs.Basis.{Upper, Zero, stand_at}
+use Rattle.pami_theory.specs.declared.words.Stand.{Stand}
+use Rattle.pami_theory.specs.Form.{Form, limits, variables, row_variable, zero_f}
+use Rattle.pami_theory.specs.declared.words.Stand.TheVariants.{Upper, Zero}
+use Rattle.pami_theory.specs.Basis.{stand_at}
 use Rattle.pami_theory.specs.Fresh.{IsFixed, IsSignedFor, IsDualFeasible}
 use Rattle.pami_theory.proofs.Solved.{fresh_regular, reduced_only}
 use Rattle.pami_state.specs.declared.state.State.{State}
-use Rattle.pami_state.specs.Columns.{limits_by, bounds_form, HasBounds}
-use Rattle.pami_state.specs.State.{stand_of, basis_of, IsSolvedAfresh, SignedBy, IsSignedAt, HasSigns}
+use Rattle.pami_state.specs.Columns.{bounds_form, HasBounds}
+use Rattle.pami_state.specs.State.{basis_of, IsSolvedAfresh, SignedBy, IsSignedAt, HasSigns}
 use Rattle.pami_theory.proofs.Violations.{fixed_iff}
-use Rattle.pami_state.proofs.Bounds.{limits_read, limits_of_form}
+use Rattle.pami_state.proofs.Bounds.{bounds_read, limits_of_form}
 use Rattle.pami_theory.specs.Violation.{is_fixed}
 
 -- ---- at most 0, where it isn't below 0: it is 0
@@ -30,24 +30,24 @@ zero_at_upper d a b h e k = (
 )
 
 -- a fixed variable is signed
-pub fixed_signed : (l : Limits) (s : theory.Stand) (d : Fraction) (a : Bool) → a ≡ is_fixed l → a ≡ true → IsTrue a ↔ SignedBy l s d
+pub fixed_signed : (l : Bounds) (s : Stand) (d : Fraction) (a : Bool) → a ≡ is_fixed l → a ≡ true → IsTrue a ↔ SignedBy l s d
 fixed_signed l s d a e h = (λ t n. absurd (n ((fixed_iff l).0 (sym e ∙ h))), λ k. h)
 
 -- ---- where a variable stands, and its reduced cost, as they are read
-pub stand_read : (stands : List Stand) (v : ℕ) (d : Stand) → v < length stands → get_or (map stand_of stands) v Zero ≡ stand_of (get_or stands v d)
-stand_read stands v d l = get_or-map stand_of stands v d Zero l
+pub stand_read : (stands : List Stand) (v : ℕ) (d : Stand) → v < length stands → get_or stands v Zero ≡ get_or stands v d
+stand_read stands v d l = get_or_default stands v Zero d l
 
 -- the sign at a variable depends on its limits, its stand and its reduced cost alone
-pub signed_same : (l k : Limits) (s t : theory.Stand) (d e : Fraction) → l ≡ k → s ≡ t → d ≡ e → SignedBy l s d → SignedBy k t e
+pub signed_same : (l k : Bounds) (s t : Stand) (d e : Fraction) → l ≡ k → s ≡ t → d ≡ e → SignedBy l s d → SignedBy k t e
 signed_same l k s t d e p q r h n = subst (IsSignedFor t) r (subst (λ z. IsSignedFor z d) q (h (λ x. n (subst IsFixed p x))))
 
 pub signed_read : (bounds : List Bounds) (st : State) (stands : List Stand) (reduced : List Fraction) (v : ℕ) (b : Bounds) (s : Stand) (d : Fraction) → stands ≡ st.stands → reduced ≡ st.reduced → length st.stands ≡ length bounds → length st.reduced ≡ length bounds →
-    v < length bounds → b ≡ get_or bounds v b → d ≡ get_or reduced v d → IsSignedAt bounds st v ↔ SignedBy (limits_by b) (stand_of (get_or stands v s)) d
+    v < length bounds → b ≡ get_or bounds v b → d ≡ get_or reduced v d → IsSignedAt bounds st v ↔ SignedBy b (get_or stands v s) d
 signed_read bounds st stands reduced v b s d e g m n l p q =
     let k : length stands ≡ length st.stands = ap length e in
     let j : length reduced ≡ length st.reduced = ap length g in
-    let x : limits (bounds_form 0 bounds) v ≡ limits_by b = limits_read bounds v b _ l p in
-    let y : stand_at (basis_of st) v ≡ stand_of (get_or stands v s) = ap (λ (ss : List Stand). get_or (map stand_of ss) v Zero) (sym e) ∙ stand_read stands v s (omega arith) in
+    let x : limits (bounds_form 0 bounds) v ≡ b = bounds_read bounds v b _ l p in
+    let y : stand_at (basis_of st) v ≡ get_or stands v s = ap (λ (ss : List Stand). get_or ss v Zero) (sym e) ∙ stand_read stands v s (omega arith) in
     let z : get st.reduced v ≡ d = ap (λ ds. get ds v) (sym g) ∙ sym (get_is reduced v d (omega arith) q) in
     (signed_same _ _ _ _ _ _ x y z, signed_same _ _ _ _ _ _ (sym x) (sym y) (sym z))
 

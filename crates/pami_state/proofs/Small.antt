@@ -11,7 +11,7 @@ use Rattle.pami_frac.specs.declared.list.Entry.{Entry}
 use Rattle.pami_script.specs.Dense.{dense}
 use Rattle.pami_script.proofs.Skipped.{length_dense, get_dense, at_here, at_other}
 use Rattle.pami_theory.specs.Form.{limits, zero_f, IsUncrossed}
-use Rattle.pami_state.specs.Columns.{limits_by, bounds_form, column_of, form_by, IsForm, HasBounds}
+use Rattle.pami_state.specs.Columns.{bounds_form, column_of, form_by, IsForm, HasBounds}
 use Rattle.pami_state.proofs.Formed.{basis_by_bounds}
 use Rattle.pami_state.proofs.Known.{stands_by_bounds}
 use Rattle.pami_state.specs.declared.state.State.{State}
@@ -80,7 +80,7 @@ small_form u v w z bounds k l zero_cost n m p q b c e = record {
   uncrossed = c;
 }
 
-pub four_uncrossed : (a b c d : Bounds) → IsUncrossed (limits_by a) → IsUncrossed (limits_by b) → IsUncrossed (limits_by c) → IsUncrossed (limits_by d) → (x : ℕ) → x < 4 → IsUncrossed (limits (bounds_form 0 (a ∷ b ∷ c ∷ d ∷ [])) x)
+pub four_uncrossed : (a b c d : Bounds) → IsUncrossed a → IsUncrossed b → IsUncrossed c → IsUncrossed d → (x : ℕ) → x < 4 → IsUncrossed (limits (bounds_form 0 (a ∷ b ∷ c ∷ d ∷ [])) x)
 four_uncrossed a b c d ua ub uc ud = below_four (λ x. IsUncrossed (limits (bounds_form 0 (a ∷ b ∷ c ∷ d ∷ [])) x)) ua ub uc ud
 
 -- ---- what such a state is known by, whose columns are these

@@ -1,16 +1,14 @@
 -- The sums of the rows: one product more, one column more, and all of them as one script.
-use Rattle.std.proofs.Common.{◌≡◌, ℕ, zero, suc, ◌+◌, ◌<◌, ◌≤◌, List, [], ◌∷◌, ◌++◌, length, take, drop, get_or, set, replicate, refl, sym, ap, ◌∙◌, subst, arith, Result, Ok, Err, ⊎_elim}
+use Rattle.std.proofs.Common.{◌≡◌, ℕ, zero, suc, ◌+◌, ◌<◌, ◌≤◌, List, [], ◌∷◌, ◌++◌, length, take, drop, get_or, set, refl, sym, ap, ◌∙◌, subst, arith, Result, Ok, ⊎_elim}
 use Rattle.std.proofs.lemmas.Bool.{cases_eq}
-use Rattle.std.proofs.lemmas.List.{length-set, length-replicate, get_or-replicate, get_or-set_same, get_or-set_other, get_or_default, drop_all, append-nil, take_all}
+use Rattle.std.proofs.lemmas.List.{length-set, get_or-set_same, get_or-set_other, get_or_default, drop_all, append-nil, take_all}
 use Rattle.pami_algebra.specs.Fraction.{Fraction}
 use Rattle.pami_linear.specs.Lists.{get}
-use Rattle.pami_frac.specs.Arithmetic.{add_outcome, mul_outcome}
 use Rattle.pami_frac.specs.declared.arithmetic.Refused.{Refused}
 use Rattle.pami_frac.specs.declared.list.Entry.{Entry}
 use Rattle.pami_script.specs.Script.{then, each, add_product, add_dot}
 use Rattle.pami_script.specs.Dense.{at, Rising}
-use Rattle.pami_script.proofs.Scripts.{then_same, then_go, then_stop, then_unit, then_assoc}
-use Rattle.pami_script.proofs.Loops.{add_stops_first}
+use Rattle.pami_script.proofs.Scripts.{then_same, then_unit, then_assoc}
 use Rattle.pami_script.proofs.Skipped.{at_here, at_other, at_below, add_zero_left, add_zero_right}
 use Rattle.pami_vec.specs.Entries.{AreEntriesOf}
 use Rattle.pami_vec.proofs.Built.{from_index}
@@ -20,15 +18,6 @@ use Rattle.pami_state.specs.Columns.{column_of}
 use Rattle.pami_state.specs.Sums.{sum_at, sum_more, AddsColumn, AreSums}
 
 -- ---- one product more
-pub more_done : (s : Result Fraction Refused) (a x t p : Fraction) (r : Result Fraction Refused) → s ≡ Ok t → Ok p ≡ mul_outcome a x → r ≡ add_outcome t p → r ≡ sum_more s a x
-more_done s a x t p r e h k = k ∙ sym (then_go s (λ t. add_product t a x) t e ∙ then_go (mul_outcome a x) (λ p. add_outcome t p) p (sym h))
-
-pub more_stops : (s : Result Fraction Refused) (a x t : Fraction) (r : Refused) → s ≡ Ok t → Err r ≡ mul_outcome a x → Err r ≡ sum_more s a x
-more_stops s a x t r e h = sym (then_go s (λ t. add_product t a x) t e ∙ add_stops_first t a x r h)
-
-pub more_stopped : (s : Result Fraction Refused) (a x : Fraction) (r : Refused) → s ≡ Err r → Err r ≡ sum_more s a x
-more_stopped s a x r e = sym (then_stop s (λ t. add_product t a x) r e)
-
 -- a zero adds nothing
 more_zero : (s : Result Fraction Refused) (x : Fraction) → sum_more s zero_f x ≡ s
 more_zero s x = then_same s (λ t. add_product t zero_f x) (λ t. Ok t) (λ t. add_zero_left t x) ∙ then_unit s
@@ -42,9 +31,6 @@ pub record Adding (old : List (Result Fraction Refused)) (es rest : List Entry) 
   pub rising : Rising low (length old) rest
   pub as_many : length now ≡ length old
   pub at : (i : ℕ) → i < length old → sum_more (sum_at now i) (at rest i) x ≡ sum_more (sum_at old i) (at es i) x
-
-pub adding_start : (old : List (Result Fraction Refused)) (column : List Fraction) (es : List Entry) (x : Fraction) → length old ≡ length column → AreEntriesOf column es → Adding old es es x old
-adding_start old column es x n a = record { low = 0; rising = subst (λ m. Rising 0 m es) (sym n) a.rising; as_many = refl; at = λ i l. refl }
 
 pub adding_row : (old : List (Result Fraction Refused)) (es : List Entry) (i : ℕ) (x : Fraction) (now : List (Result Fraction Refused)) (e : Entry) → Adding old es (drop i es) x now → i < length es → e ≡ get_or es i e → e.place < length now
 adding_row old es i x now e h l q =
@@ -118,12 +104,6 @@ dot_last n u v t =
     let e : n + 1 ≡ suc n = omega arith in
     ap (λ m. add_dot m u v t) e ∙ each_last n 0 (λ i t. add_product t (u i) (v i)) t
     ∙ (let g : 0 + n ≡ n = omega arith in ap (λ j. sum_more (add_dot n u v t) (u j) (v j)) g)
-
-pub sums_start : (columns : List (List Fraction)) (rows : ℕ) (x : ℕ → Fraction) (sums : List (Result Fraction Refused)) → sums ≡ replicate rows (Ok zero_f) → AreSums columns rows 0 x sums
-sums_start columns rows x sums e = record {
-  by_row = ap length e ∙ length-replicate rows (Ok zero_f);
-  at = λ i l. ap (λ ss. sum_at ss i) e ∙ get_or-replicate rows i (Ok zero_f) (Ok zero_f) l;
-}
 
 pub sums_more : (columns : List (List Fraction)) (rows j : ℕ) (x : ℕ → Fraction) (column : List Fraction) (value : Fraction) (old new : List (Result Fraction Refused)) → AreSums columns rows j x old → column ≡ column_of columns j → value ≡ x j →
     AddsColumn old column value new → AreSums columns rows (j + 1) x new

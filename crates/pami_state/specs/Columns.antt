@@ -1,12 +1,12 @@
 -- The computational form that a program's lists make. Each list goes over all variables: the columns first, and then the
 -- row variable of each row, whose column is the negated unit vector of its row and whose cost is 0.
-use Rattle.std.specs.Prelude.{◌≡◌, ℕ, ◌+◌, ◌-◌, ◌<◌, ◌≤◌, ◌^◌, List, [], ◌∷◌, length, map, take, slice_index_or}
+use Rattle.std.specs.Prelude.{◌≡◌, ℕ, ◌+◌, ◌-◌, ◌<◌, ◌≤◌, ◌^◌, List, [], ◌∷◌, length, take, slice_index_or}
 use Rattle.pami_algebra.specs.Fraction.{Fraction}
 use Rattle.pami_algebra.specs.Operations.{neg_f}
 use Rattle.pami_linear.specs.Lists.{get}
 use Rattle.pami_linear.specs.Sums.{unit}
 use Rattle.pami_frac.specs.declared.list.Bounds.{Bounds}
-use Rattle.pami_theory.specs.Form.{Form, Limits, limits, variables, zero_f, IsUncrossed}
+use Rattle.pami_theory.specs.Form.{Form, limits, variables, zero_f, IsUncrossed}
 
 -- the count of rows: the length of each column
 abbrev pub rows_of : List (List Fraction) → ℕ
@@ -21,16 +21,13 @@ columns_of columns = length columns - rows_of columns
 abbrev pub column_of : List (List Fraction) → ℕ → List Fraction
 column_of columns v = slice_index_or columns v []
 
-abbrev pub limits_by : Bounds → Limits
-limits_by b = record { low = b.low; high = b.high }
-
 -- the form: the last variables of the lists are its row variables
 abbrev pub form_by : List (List Fraction) → List Bounds → List Fraction → Form
 form_by columns bounds costs = record {
   rows = rows_of columns;
   columns = columns_of columns;
   entries = take (columns_of columns) columns;
-  bounds = map limits_by bounds;
+  bounds = bounds;
   costs = take (columns_of columns) costs;
 }
 
@@ -47,9 +44,9 @@ pub record IsForm (columns : List (List Fraction)) (bounds : List Bounds) (costs
 
 -- a form with these bounds and this count of rows, which has no entries and no costs: what a basis is speaks of neither
 abbrev pub bounds_form : ℕ → List Bounds → Form
-bounds_form rows bounds = record { rows = rows; columns = length bounds - rows; entries = []; bounds = map limits_by bounds; costs = [] }
+bounds_form rows bounds = record { rows = rows; columns = length bounds - rows; entries = []; bounds = bounds; costs = [] }
 
 -- a form has these bounds, and no others
 pub record HasBounds (f : Form) (bounds : List Bounds) : Type 0 where
   pub by_variable : length bounds ≡ variables f
-  pub same : f.bounds ≡ map limits_by bounds
+  pub same : f.bounds ≡ bounds

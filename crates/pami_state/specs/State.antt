@@ -3,25 +3,16 @@ use Rattle.std.specs.Prelude.{◌≡◌, ℕ, ◌<◌, List, length, map}
 use Rattle.std.specs.List.{range_with_len}
 use Rattle.pami_algebra.specs.Fraction.{Fraction}
 use Rattle.pami_linear.specs.Lists.{get}
-use Rattle.pami_vec.specs.declared.list.Stand.{Stand}
-use Rattle.pami_vec.specs.declared.list.Stand.TheVariants as stands
-use Rattle.pami_theory.specs.Form.{Form, Limits, limits}
-use Rattle.pami_theory.specs.Basis as theory
+use Rattle.pami_theory.specs.declared.words.Stand.{Stand}
+use Rattle.pami_frac.specs.declared.list.Bounds.{Bounds}
+use Rattle.pami_theory.specs.Form.{Form, limits}
 use Rattle.pami_theory.specs.Basis.{Basis, stand_at}
 use Rattle.pami_theory.specs.Fresh.{Fresh, IsFresh, IsFixed, IsSignedFor, value_at_place}
 use Rattle.pami_state.specs.declared.state.State.{State}
 use Rattle.pami_state.specs.Columns.{bounds_form}
-use Rattle.pami_frac.specs.declared.list.Bounds.{Bounds}
-
--- where a variable stands, as the theory has it
-abbrev pub stand_of : Stand → theory.Stand
-stand_of stands.Basic = theory.Basic
-stand_of stands.Lower = theory.Lower
-stand_of stands.Upper = theory.Upper
-stand_of stands.Zero = theory.Zero
 
 abbrev pub basis_of : State → Basis
-basis_of st = record { head = st.head; stands = map stand_of st.stands }
+basis_of st = record { head = st.head; stands = st.stands }
 
 -- the values of the basis by place, where s is solved there
 abbrev pub values_by_place : Form → Basis → Fresh → List Fraction
@@ -35,7 +26,7 @@ pub record IsSolvedAfresh (f : Form) (st : State) : Type 0 where
   pub reduced : st.reduced ≡ fresh.reduced
 
 -- a reduced cost has the sign that its variable's stand asks for, unless the limits fix the variable
-abbrev pub SignedBy : Limits → theory.Stand → Fraction → Type 0
+abbrev pub SignedBy : Bounds → Stand → Fraction → Type 0
 SignedBy l stand d = ¬ IsFixed l → IsSignedFor stand d
 
 abbrev pub IsSignedAt : List Bounds → State → ℕ → Type 0

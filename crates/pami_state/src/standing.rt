@@ -1,25 +1,24 @@
-//! One variable: where it stands at the start, its value there, and the sign of its reduced cost.
+//! One variable: where it stands at the start, and the sign of its reduced cost.
 
 ghost use Rattle.std.specs.Prelude.{◌≡◌, ◌↔◌, IsTrue};
-ghost use Rattle.pami_theory.specs.Start.{is_same, boxed_stand, stand_by};
-ghost use Rattle.pami_theory.specs.Fresh.{standing_value, IsSignedFor};
-ghost use Rattle.pami_theory.specs.Violation.{is_fixed, value_or_zero};
-ghost use Rattle.pami_state.specs.Columns.{limits_by};
-ghost use Rattle.pami_state.specs.State.{stand_of, SignedBy};
+ghost use Rattle.pami_theory.specs.Start.{is_same as the_is_same, boxed_stand as the_boxed_stand, stand_by};
+ghost use Rattle.pami_theory.specs.Fresh.{IsSignedFor};
+ghost use Rattle.pami_theory.specs.Violation.{is_fixed as the_is_fixed};
+ghost use Rattle.pami_state.specs.State.{SignedBy};
 
 use pami_frac::{Bounds, Frac};
 use pami_vec::Stand;
 
 /// Are both the same number?
 fn is_same(left: Frac, right: Frac) -> bool
-    ensures { result ≡ is_same left right }
+    ensures { result ≡ the_is_same left right }
 {
     left == right
 }
 
 /// Are both bounds finite and equal?
 fn is_fixed(bounds: &Bounds) -> bool
-    ensures { result ≡ is_fixed (limits_by bounds.now) }
+    ensures { result ≡ the_is_fixed bounds.now }
 {
     match (bounds.low, bounds.high) {
         (Some(low), Some(high)) => is_same(low, high),
@@ -29,7 +28,7 @@ fn is_fixed(bounds: &Bounds) -> bool
 
 /// The bound at which a column with two bounds stands.
 fn boxed_stand(fixed: bool, cost: Frac) -> Stand
-    ensures { stand_of result ≡ boxed_stand fixed cost }
+    ensures { result ≡ the_boxed_stand fixed cost }
 {
     if !fixed && cost.is_negative() {
         Stand::Upper
@@ -41,7 +40,7 @@ fn boxed_stand(fixed: bool, cost: Frac) -> Stand
 /// Where a column with this cost stands at the start: at a bound that it has, a boxed one at the bound that its cost
 /// asks for, a free one at 0.
 pub(crate) fn starting_stand(bounds: &Bounds, cost: Frac) -> Stand
-    ensures { stand_of result ≡ stand_by bounds.now.low bounds.now.high cost }
+    ensures { result ≡ stand_by bounds.now.low bounds.now.high cost }
 {
     match (bounds.low, bounds.high) {
         (None, None) => Stand::Zero,
@@ -51,31 +50,9 @@ pub(crate) fn starting_stand(bounds: &Bounds, cost: Frac) -> Stand
     }
 }
 
-/// The value at the bound, 0 where there is none.
-fn value_or_zero(bound: Option<Frac>) -> Frac
-    ensures { result ≡ value_or_zero bound }
-{
-    match bound {
-        Some(value) => value,
-        None => Frac::zero(),
-    }
-}
-
-/// The value of a nonbasic variable that stands so.
-pub(crate) fn standing_value(bounds: &Bounds, stand: Stand) -> Frac
-    ensures { result ≡ standing_value (limits_by bounds.now) (stand_of stand) }
-{
-    match stand {
-        Stand::Basic => Frac::zero(),
-        Stand::Lower => value_or_zero(bounds.low),
-        Stand::Upper => value_or_zero(bounds.high),
-        Stand::Zero => Frac::zero(),
-    }
-}
-
 /// Has a reduced cost the sign that the stand asks for?
 fn has_sign(stand: Stand, reduced: Frac) -> bool
-    ensures { IsTrue result ↔ IsSignedFor (stand_of stand) reduced }
+    ensures { IsTrue result ↔ IsSignedFor stand reduced }
 {
     match stand {
         Stand::Basic => true,
@@ -87,7 +64,7 @@ fn has_sign(stand: Stand, reduced: Frac) -> bool
 
 /// Has the reduced cost of a variable the sign that its stand asks for, unless the variable is fixed?
 pub(crate) fn is_signed(bounds: &Bounds, stand: Stand, reduced: Frac) -> bool
-    ensures { IsTrue result ↔ SignedBy (limits_by bounds.now) (stand_of stand) reduced }
+    ensures { IsTrue result ↔ SignedBy bounds.now stand reduced }
 {
     is_fixed(bounds) || has_sign(stand, reduced)
 }

@@ -2,19 +2,19 @@
 
 ghost use Rattle.std.specs.Prelude.{◌≡◌, ◌<◌, ◌≤◌, ◌+◌, ◌^◌, ℕ, length, map, replicate, IfOk};
 ghost use Rattle.std.specs.List.{range_with_len};
-ghost use Rattle.pami_frac.specs.Answers.{Follows};
-ghost use Rattle.pami_script.specs.Follows.{FollowsScript};
+ghost use Rattle.pami_frac.specs.Answers.{Follows, FollowsBy};
 ghost use Rattle.pami_theory.specs.Fresh.{Fresh, IsFresh};
 ghost use Rattle.pami_theory.specs.Start.{starting_basis};
 ghost use Rattle.pami_method.specs.Phases.{start_refused};
 ghost use Rattle.pami_state.specs.Columns.{column_of, form_by, rows_of, IsForm};
-ghost use Rattle.pami_state.specs.State.{basis_of, stand_of, IsSolvedAfresh};
+ghost use Rattle.pami_state.specs.State.{basis_of, IsSolvedAfresh};
 ghost use Rattle.pami_state.specs.Sums.{stand_by_lists, standing_at, sum_more, sums_script, AddsColumn, AreSums};
 
-use crate::standing::{standing_value, starting_stand};
+use crate::standing::starting_stand;
 use crate::state::State;
 use pami_frac::{Bounds, Fault, Frac, FracList, OutOfMemory, Refused};
-use pami_vec::{PlaceList, SpVec, Stand, StandList, WeightList};
+use pami_script::plain::add_product;
+use pami_vec::{PlaceList, SpVec, Stand, StandList, WeightList, value_at};
 use std::alloc::Global;
 
 /// The count of rows: the length of each column.
@@ -40,7 +40,7 @@ fn starting_stands(
 ) -> Result<Vec<Stand>, OutOfMemory>
     requires columns { columns ≤ length bounds.now }
     requires costs { length costs.now ≡ length bounds.now }
-    ensures { IfOk result (λ stands. map stand_of stands.items ≡ map (stand_by_lists columns bounds.now costs.now) (range_with_len 0 (length bounds.now))) }
+    ensures { IfOk result (λ stands. stands.items ≡ map (stand_by_lists columns bounds.now costs.now) (range_with_len 0 (length bounds.now))) }
 {
     let mut stands = Vec::new(alloc);
     for (v, limits) in bounds.iter().enumerate() {
@@ -73,13 +73,7 @@ fn row_variables(alloc: Global, columns: u32, rows: u32) -> Result<Vec<u32>, Out
 fn go_on(sum: Result<Frac, Refused>, entry: Frac, x: Frac) -> Result<Frac, Refused>
     ensures { result ≡ sum_more sum entry x }
 {
-    match sum {
-        Ok(sum) => match entry.mul(x) {
-            Ok(product) => sum.add(product),
-            Err(refused) => Err(refused),
-        },
-        Err(refused) => Err(refused),
-    }
+    add_product(sum?, entry, x)
 }
 
 /// Goes on with the sum of each row by its entry of a column, times `x`.
@@ -113,7 +107,7 @@ fn row_sums(
 {
     let mut sums = vec![in alloc; Ok(Frac::zero()); rows as usize]?;
     for (j, column) in columns.iter().enumerate() {
-        let x = standing_value(&bounds[j], stands[j]);
+        let x = value_at(&bounds[j], stands[j]);
         if x.is_zero() {
             continue;
         }
@@ -128,7 +122,7 @@ fn row_sums(
 ///
 /// `Named` exactly where a row was refused: the refusal of the first such. `OutOfMemory` where memory runs out.
 fn row_values(alloc: Global, sums: &[Result<Frac, Refused>]) -> Result<FracList, Fault<Refused>>
-    ensures { FollowsScript (sums_script sums.now) result }
+    ensures { FollowsBy (λ v. v) (sums_script sums.now) result }
 {
     let mut values = Vec::new(alloc);
     for sum in sums {

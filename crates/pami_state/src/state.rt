@@ -7,10 +7,11 @@ ghost use Rattle.pami_theory.specs.Basis.{stand_at, head_at, StandsAt, IsBasis};
 ghost use Rattle.pami_theory.specs.Fresh.{IsDualFeasible};
 ghost use Rattle.pami_state.specs.Columns.{bounds_form, HasBounds};
 ghost use Rattle.pami_state.specs.State.{basis_of, HasSigns, IsSolvedAfresh};
+ghost use Rattle.pami_state.specs.Sums.{standing_values as the_standing_values};
 
-use crate::standing::{is_signed, standing_value};
+use crate::standing::is_signed;
 use pami_frac::{Bounds, Frac, FracList, OutOfMemory};
-use pami_vec::{PlaceList, Stand, StandList, WeightList};
+use pami_vec::{PlaceList, Stand, StandList, WeightList, value_at};
 use std::alloc::Global;
 
 /// A basis with what is solved there: the variable at each place, where each variable stands, the value of each place,
@@ -36,6 +37,26 @@ fn place_of(head: &[u32], variable: u32) -> usize
         place += 1;
     }
     place
+}
+
+/// The values where nonbasic variables stand, by variable; 0 for basic ones. The bounds go by variable.
+///
+/// # Errors
+///
+/// `OutOfMemory` alone.
+fn standing_values(
+    alloc: Global,
+    stands: &[Stand],
+    bounds: &[Bounds],
+) -> Result<Vec<Frac>, OutOfMemory>
+    requires { length stands.now ≡ length bounds.now }
+    ensures { IfOk result (λ list. list.items ≡ the_standing_values bounds.now stands.now) }
+{
+    let mut list = Vec::new(alloc);
+    for (v, limits) in bounds.iter().enumerate() {
+        list.push(value_at(limits, stands[v]))?;
+    }
+    Ok(list)
 }
 
 impl State {
@@ -73,7 +94,29 @@ impl State {
         if stand == Stand::Basic {
             return self.values.as_slice()[place_of(self.head.as_slice(), variable)];
         }
-        standing_value(&bounds[variable as usize], stand)
+        value_at(&bounds[variable as usize], stand)
+    }
+
+    /// The values of all variables, by variable. The bounds go by variable.
+    ///
+    /// # Errors
+    ///
+    /// `OutOfMemory` alone.
+    pub fn values(&self, alloc: Global, bounds: &[Bounds]) -> Result<FracList, OutOfMemory>
+        requires values { length self.now.values ≡ length self.now.head }
+        requires stands { length self.now.stands ≡ length bounds.now }
+        requires basis { IsBasis (bounds_form (length self.now.head) bounds.now) (basis_of self.now) }
+        ensures by_variable { IfOk result (λ list. length list ≡ length bounds.now) }
+        ensures solved { IfOk result (λ list. (f : Form) → HasBounds f bounds.now → (a : IsSolvedAfresh f self.now)
+            → list ≡ a.fresh.values) }
+    {
+        let head = self.head.as_slice();
+        let values = self.values.as_slice();
+        let mut list = standing_values(alloc, self.stands.as_slice(), bounds)?;
+        for p in 0..head.len() {
+            list[head[p] as usize] = values[p];
+        }
+        Ok(FracList::from_vec(list))
     }
 
     /// An equal state.

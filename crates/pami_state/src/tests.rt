@@ -5,7 +5,7 @@ ghost use Rattle.pami_algebra.specs.Operations.{◌≤ᶠ◌};
 ghost use Rattle.pami_linear.specs.Lists.{get};
 ghost use Rattle.pami_theory.specs.Form.{limits, IsUncrossed};
 ghost use Rattle.pami_theory.specs.Basis.{IsBasis};
-ghost use Rattle.pami_state.specs.Columns.{bounds_form, limits_by};
+ghost use Rattle.pami_state.specs.Columns.{bounds_form};
 ghost use Rattle.pami_state.specs.State.{basis_of};
 
 use crate::{State, start};
@@ -38,7 +38,7 @@ fn at_least(least: Frac, value: Frac) -> Frac
 
 /// These bounds, the upper one raised to the lower one where they are crossed.
 fn uncrossed(low: Option<Frac>, high: Option<Frac>) -> Bounds
-    ensures { IsUncrossed (limits_by result) }
+    ensures { IsUncrossed result }
 {
     match (low, high) {
         (Some(least), Some(most)) => Bounds {
@@ -204,6 +204,8 @@ fn starting_states(rt: HostRuntime) -> Result<(), Fail> {
         assert!(rt; state.reduced.as_slice() == [costs[0], costs[1], zero, zero].as_slice());
         assert!(rt; state.weights.as_slice() == [1, 1].as_slice());
         assert_eq!(rt; values(&state, &bounds), *wanted);
+        let all = state.values(rt.alloc(), &bounds)?;
+        assert!(rt; all.as_slice() == wanted.as_slice());
         assert_eq!(rt; state.dual_feasible(&bounds), *feasible);
     }
     Ok(())

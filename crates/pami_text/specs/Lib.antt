@@ -1,4 +1,1 @@
-pub mod Line
-pub mod Answer
 pub mod Record
-pub mod Examples

@@ -1,47 +1,27 @@
--- The lines that record a run: its majors with their drops, flips and pivots, and its answer with what proves it.
-use Rattle.std.specs.Prelude.{ℕ, suc, ◌-◌, List, [], ◌∷◌, ◌++◌, map, length, Option, None, Some, Result, Ok, Err, if◌then◌else◌, nat_lt, codes, decimal, slice_index_or}
+-- The text of a run: its majors with their drops, flips and pivots, and its answer with what proves it.
+use Rattle.std.specs.Prelude.{ℕ, suc, List, [], ◌∷◌, ◌++◌, map, Option, None, Some, codes, decimal}
 use Rattle.std.specs.List.{flat_map}
-use Rattle.pami_algebra.specs.Fraction.{Fraction}
 use Rattle.pami_frac.specs.Printed.{printed}
-use Rattle.pami_frac.specs.declared.arithmetic.Op.{Op}
-use Rattle.pami_frac.specs.declared.arithmetic.Op.TheVariants.{Add, Sub, Mul, Div}
-use Rattle.pami_frac.specs.declared.arithmetic.Refused.{Refused}
 use Rattle.pami_linear.specs.Lists.{get}
-use Rattle.pami_script.specs.Script.{add_dot}
 use Rattle.pami_theory.specs.Form.{Form}
-use Rattle.pami_theory.specs.Basis.{Stand, Basis, head_at, stand_at}
+use Rattle.pami_theory.specs.Basis.{Basis, head_at, stand_at}
 use Rattle.pami_theory.specs.Step.{Step, flipped, stand_on}
-use Rattle.pami_method.specs.Place.{Spot, Start, Choose, Factor, Backward, Row, Price, Ratio, Step as StepSpot, Reach, Shift, Column, Flips, Transform, Values, Switch, RefusedAt}
+use Rattle.pami_method.specs.declared.words.Place.{Place}
+use Rattle.pami_method.specs.declared.words.Spot.{Spot}
+use Rattle.pami_method.specs.declared.words.Spot.TheVariants.{Start, Choose, Factor, Backward, Row, Price, Ratio, Step as StepSpot, Reach, Shift, Column, Flips, Transform, Values, Switch}
 use Rattle.pami_method.specs.Batch.{Reached, Minor, Turn, AtLimit, NoRow, Stuck, Pivots, turn, places}
-use Rattle.pami_method.specs.Walk.{Options, State, Mode, Full, Single, Major, After, Ends, GoesOn, refused_in, after}
+use Rattle.pami_method.specs.declared.words.Mode.{Mode}
+use Rattle.pami_method.specs.declared.words.Mode.TheVariants.{Full, Single}
+use Rattle.pami_method.specs.declared.words.Options.{Options}
+use Rattle.pami_method.specs.Walk.{State, Major, After, Ends, GoesOn, refused_in, after}
 use Rattle.pami_method.specs.Phases.{Phase, Record, Answer, Optimal, Infeasible, DualInfeasible, Limit, Overflow}
-use Rattle.pami_text.specs.Answer.{Counts, letter, valued_from, head_lines, phase_line, optimal_lines, basis_line, Optimal as OptimalCertificate}
+use Rattle.pami_lines.specs.Words.{dashed, operation_word}
+use Rattle.pami_lines.specs.Head.{head_lines, phase_line}
+use Rattle.pami_lines.specs.Names.{Names, variable_word}
+use Rattle.pami_lines.specs.Letters.{letter_word, basis_line}
+use Rattle.pami_lines.specs.Certificate.{Named, answer_line, certificate_of, optimal_lines, infeasible_lines, dual_infeasible_lines}
 
 -- ---- words
-
--- the names of the columns and of the rows
-pub record Names : Type 0 where
-  pub columns : List (List ℕ)
-  pub rows : List (List ℕ)
-
--- a variable: a column or a row, and its name; a dash for one that isn't there
-abbrev pub variable_word : Names → ℕ → List ℕ
-variable_word n v =
-    if nat_lt v (length n.columns) then codes "x:" ++ slice_index_or n.columns v [] else
-    if nat_lt (v - length n.columns) (length n.rows) then codes "r:" ++ slice_index_or n.rows (v - length n.columns) [] else codes "-"
-
-abbrev pub operation_word : Op → List ℕ
-operation_word Add = codes "add"
-operation_word Sub = codes "sub"
-operation_word Mul = codes "mul"
-operation_word Div = codes "div"
-
-abbrev pub letter_word : Stand → List ℕ
-letter_word s = letter s ∷ []
-
--- numbers behind a word, each with a dash before it
-abbrev pub dashed : List ℕ → List ℕ → List ℕ
-dashed word numbers = word ++ flat_map (λ n. codes "-" ++ decimal n) numbers
 
 abbrev pub spot_word : Spot → List ℕ
 spot_word Start = codes "start"
@@ -60,8 +40,8 @@ spot_word (Transform k) = dashed (codes "transform") (k ∷ [])
 spot_word Values = codes "values"
 spot_word Switch = codes "switch"
 
-abbrev pub refused_words : RefusedAt → List (List ℕ)
-refused_words r = spot_word r.spot ∷ operation_word r.refused.op ∷ printed r.refused.left ∷ printed r.refused.right ∷ []
+abbrev pub refused_words : Place → List (List ℕ)
+refused_words r = spot_word r.task ∷ operation_word r.refused.op ∷ printed r.refused.left ∷ printed r.refused.right ∷ []
 
 abbrev pub mode_word : Mode → List ℕ
 mode_word Full = codes "full"
@@ -95,11 +75,11 @@ abbrev pub major_line : Major → List (List ℕ)
 major_line g = codes "major" ∷ decimal g.number ∷ mode_word g.mode ∷ map decimal (places g.first.rows)
 
 -- a Full major that was refused leaves a line, a Single one that was refused leaves none
-abbrev pub refused_lines : ℕ → Mode → RefusedAt → List (List (List ℕ))
+abbrev pub refused_lines : ℕ → Mode → Place → List (List (List ℕ))
 refused_lines number Full r = (codes "rollback" ∷ decimal number ∷ refused_words r) ∷ []
 refused_lines number Single r = []
 
-abbrev pub major_lines : Names → Form → ℕ → Major → Option RefusedAt → List (List (List ℕ))
+abbrev pub major_lines : Names → Form → ℕ → Major → Option Place → List (List (List ℕ))
 major_lines n f limit g (Some r) = refused_lines g.number g.mode r
 major_lines n f limit g None = major_line g ∷ (flat_map (minor_lines n) g.minors ++ last_lines n g.last (turn f limit g.last))
 
@@ -118,44 +98,6 @@ phase_lines n o number None = []
 phase_lines n o number (Some p) = phase_line number ∷ walk_lines n p.form o p.start p.majors
 
 -- ---- the answer
-
--- a model as a text names it: its names, its counts, the constant of its objective and its own costs by column
-pub record Named : Type 0 where
-  pub names : Names
-  pub counts : Counts
-  pub constant : Fraction
-  pub cost : ℕ → Fraction
-
-abbrev pub kept_or_none : Result Fraction Refused → Option Fraction
-kept_or_none (Ok value) = Some value
-kept_or_none (Err refused) = None
-
--- the objective: the constant, and each cost times its value, columns ascending; None where an operation doesn't fit
-abbrev pub objective_in : Named → (ℕ → Fraction) → Option Fraction
-objective_in m x = kept_or_none (add_dot m.counts.columns m.cost x m.constant)
-
-abbrev pub certificate_of : Named → (ℕ → Fraction) → (ℕ → Fraction) → OptimalCertificate
-certificate_of m x d = record {
-  objective = objective_in m x;
-  columns = valued_from 0 m.names.columns x d;
-  rows = valued_from (length m.names.columns) m.names.rows x d;
-}
-
-abbrev pub answer_line : List (List ℕ) → List (List ℕ)
-answer_line words = codes "answer" ∷ words
-
--- one value behind each name, from number v on
-abbrev pub named_lines : List ℕ → ℕ → List (List ℕ) → (ℕ → Fraction) → List (List (List ℕ))
-named_lines tag v [] x = []
-named_lines tag v (name ∷ names) x = (tag ∷ name ∷ printed (x v) ∷ []) ∷ named_lines tag (suc v) names x
-
-abbrev pub infeasible_lines : Named → List Fraction → List (List (List ℕ))
-infeasible_lines m y = (codes "certificate" ∷ codes "1" ∷ codes "infeasible" ∷ []) ∷ (named_lines (codes "r") 0 m.names.rows (get y) ++ (codes "end" ∷ []) ∷ [])
-
-abbrev pub dual_infeasible_lines : Named → List Fraction → List (List (List ℕ))
-dual_infeasible_lines m z =
-    (codes "certificate" ∷ codes "1" ∷ codes "dual-infeasible" ∷ []) ∷
-    (named_lines (codes "x") 0 m.names.columns (get z) ++ (named_lines (codes "r") (length m.names.columns) m.names.rows (get z) ++ (codes "end" ∷ []) ∷ []))
 
 abbrev pub answer_lines : Named → Answer → List (List (List ℕ))
 answer_lines m (Optimal st s) =

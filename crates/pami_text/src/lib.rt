@@ -1,27 +1,9 @@
-//! The output texts of the program as definitions on lists of bytes, made of what a run answers.
+//! The text of a run as a definition on lists of bytes: the lines of its majors, of its phases and of its answer, made of
+//! what the run's record and answer say.
 //!
-//! Stands on `pami_method`, whose record and answer of a run it writes down, and on `pami_frac` for the texts of numbers. It
-//! has no code that runs: the layers above print, and may rely on what is to be printed standing here alone, on texts being
-//! put together from their parts, on a told objective being exact, and on the worked texts.
+//! Stands on `pami_method`, whose record and answer of a run it writes down, and on `pami_lines` for the words, the head and
+//! the certificates. It has no code that runs: the layers above print, and may rely on what is to be printed standing here
+//! alone, on a run's text being put together from its parts, and on what is told of a major that was refused.
 #![tactic(auto)]
 
-pub mod worked_texts;
-
-ghost use Rattle.std.specs.Prelude.{◌≡◌, ℕ, List, [], ◌∷◌, ◌++◌};
-ghost use Rattle.pami_algebra.specs.Fraction.{Fraction};
-ghost use Rattle.pami_theory.specs.Certificate.{HoldsObjective};
-ghost use Rattle.pami_text.specs.Line.{line, text};
-ghost use Rattle.pami_text.specs.Record.{Named, objective_in};
-
-/// The text of lines is that of the first of them and that of the others behind it; a single line is its own text.
-pub fn texts_join()
-    ensures joined { (xs ys : List (List (List ℕ))) → text (xs ++ ys) ≡ text xs ++ text ys }
-    ensures one { (words : List (List ℕ)) → text (words ∷ []) ≡ line words }
-{}
-
-/// The objective that a text tells is the constant and the sum of the costs times the values; where an operation of that
-/// sum doesn't fit it tells none.
-pub fn told_objectives_are_exact()
-    ensures objective { (m : Named) (x : ℕ → Fraction)
-        → HoldsObjective m.constant m.counts.columns m.cost x (objective_in m x) }
-{}
+pub mod text_laws;

@@ -18,10 +18,14 @@ use Rattle.pami_algebra.proofs.Whole.{of_int_neg}
 use Rattle.pami_linear.specs.Lists.{get}
 use Rattle.pami_linear.specs.Sums.{sum_to, dot}
 use Rattle.pami_linear.proofs.Sums.{sum_neg, sum_nonneg, sum_nonneg_zero, sum_none}
-use Rattle.pami_theory.specs.Form.{Form, Limits, variables, limits, row_variable, coefficient, IsPoint, IsWithin, IsUncrossed, IsFeasible, zero_f}
-use Rattle.pami_theory.specs.Basis.{Stand, Basic, Lower, Upper, Zero, Basis, head_at, stand_at, StandsAt, IsBasis}
+use Rattle.pami_frac.specs.declared.list.Bounds.{Bounds}
+use Rattle.pami_theory.specs.Form.{Form, variables, limits, row_variable, coefficient, IsPoint, IsWithin, IsUncrossed, IsFeasible, zero_f}
+use Rattle.pami_theory.specs.declared.words.Stand.{Stand}
+use Rattle.pami_theory.specs.declared.words.Stand.TheVariants.{Basic, Lower, Upper, Zero}
+use Rattle.pami_theory.specs.Basis.{Basis, head_at, stand_at, StandsAt, IsBasis}
 use Rattle.pami_theory.specs.Fresh.{AreReducedCosts, IsFixed, IsSignedFor, IsDualFeasible, Fresh, value_at_place, IsFresh}
-use Rattle.pami_theory.specs.Violation.{Violation, violation}
+use Rattle.pami_theory.specs.declared.words.Violation.{Violation}
+use Rattle.pami_theory.specs.Violation.{violation}
 use Rattle.pami_theory.specs.Start.{is_same, starting_basis}
 use Rattle.pami_theory.specs.Step.{step_at}
 use Rattle.pami_theory.specs.Certificate.{HoldsOptimal, HoldsDualInfeasible}
@@ -40,7 +44,7 @@ use Rattle.pami_theory.proofs.Switched.{switched_there, switch_is_basis}
 minus_one_below : of_int (negsuc 0) <ᶠ zero_f
 minus_one_below = subst (λ z. z <ᶠ zero_f) (sym (of_int_neg (pos 1))) (neg_below_f (of_int (pos 1)) zero_lt_one_f)
 
-abbrev IsAround : Limits → Type 0
+abbrev IsAround : Bounds → Type 0
 IsAround l = (low : Fraction) × (high : Fraction) × (l.low ≡ Some low) × (l.high ≡ Some high) × (low ≤ᶠ zero_f) × (zero_f ≤ᶠ high)
 
 box_around : (o p : Option Fraction) → IsAround (box_by o p)
@@ -49,16 +53,16 @@ box_around (Some low) None = (zero_f, of_int (pos 1), refl, refl, le_refl_f zero
 box_around None (Some high) = (of_int (negsuc 0), zero_f, refl, refl, lt_le_f (of_int (negsuc 0)) zero_f minus_one_below, le_refl_f zero_f)
 box_around (Some low) (Some high) = (zero_f, zero_f, refl, refl, le_refl_f zero_f, le_refl_f zero_f)
 
-around_within : (l : Limits) → IsAround l → IsWithin l zero_f
+around_within : (l : Bounds) → IsAround l → IsWithin l zero_f
 around_within l h = record {
   above_low = λ low e. subst (λ z. z ≤ᶠ zero_f) (same_Some h.0 low (sym h.2 ∙ e)) h.4;
   below_high = λ high e. subst (λ z. zero_f ≤ᶠ z) (same_Some h.1 high (sym h.3 ∙ e)) h.5;
 }
 
-around_uncrossed : (l : Limits) → IsAround l → IsUncrossed l
+around_uncrossed : (l : Bounds) → IsAround l → IsUncrossed l
 around_uncrossed l h = record { ordered = λ low high e k. le_trans_f low zero_f high ((around_within l h).above_low low e) ((around_within l h).below_high high k) }
 
-abbrev unlimited : Limits
+abbrev unlimited : Bounds
 unlimited = record { low = None; high = None }
 
 pub limits_boxed : (f : Form) (v : ℕ) → v < length f.bounds → limits (boxes_of f) v ≡ box (limits f v)

@@ -6,8 +6,11 @@ use Rattle.pami_algebra.specs.Operations.{◌-ᶠ◌, ◌≤ᶠ◌, ◌<ᶠ◌}
 use Rattle.pami_algebra.proofs.Order.{le_refl_f}
 use Rattle.pami_algebra.proofs.Strict.{lt_or_le_f, le_by_not_f, not_le_f, lt_irrefl_f}
 use Rattle.pami_linear.specs.Sums.{dot}
-use Rattle.pami_theory.specs.Form.{Form, Limits, limits, entry, cost, variables, row_variable, coefficient, cost_of, zero_f, IsWithin, IsUncrossed}
-use Rattle.pami_theory.specs.Basis.{Stand, Basic, Lower, Upper, Zero, Basis, head_at, stand_at, StandsAt, IsBasis}
+use Rattle.pami_frac.specs.declared.list.Bounds.{Bounds}
+use Rattle.pami_theory.specs.Form.{Form, limits, entry, cost, variables, row_variable, coefficient, cost_of, zero_f, IsWithin, IsUncrossed}
+use Rattle.pami_theory.specs.declared.words.Stand.{Stand}
+use Rattle.pami_theory.specs.declared.words.Stand.TheVariants.{Basic, Lower, Upper, Zero}
+use Rattle.pami_theory.specs.Basis.{Basis, head_at, stand_at, StandsAt, IsBasis}
 use Rattle.pami_theory.specs.Fresh.{AreValues, AreReducedCosts, IsFixed, IsSignedFor, IsDualFeasible, IsOutside, HasInfeasible}
 use Rattle.pami_theory.specs.Start.{starting_basis}
 use Rattle.pami_theory.specs.Certificate.{IsComplementary, HoldsOptimal}
@@ -24,19 +27,19 @@ none_of : (o : Option Fraction) (a : Fraction) → o ≡ None → ¬ (o ≡ Some
 none_of o a h k = none-some a (sym h ∙ k)
 
 -- ---- within
-pub within_by_not_outside : (l : Limits) (value : Fraction) → ¬ IsOutside l value → IsWithin l value
+pub within_by_not_outside : (l : Bounds) (value : Fraction) → ¬ IsOutside l value → IsWithin l value
 within_by_not_outside l value n = record {
   above_low = λ low e. le_by_not_f low value (λ k. n (inr (low, e, k)));
   below_high = λ high e. le_by_not_f value high (λ k. n (inl (high, e, k)));
 }
 
-pub within_not_outside : (l : Limits) (value : Fraction) → IsWithin l value → ¬ IsOutside l value
+pub within_not_outside : (l : Bounds) (value : Fraction) → IsWithin l value → ¬ IsOutside l value
 within_not_outside l value h o = ⊎_elim
     (λ (k : (high : Fraction) × (l.high ≡ Some high) × (high <ᶠ value)). not_le_f k.0 value k.2 (h.below_high k.0 k.1))
     (λ (k : (low : Fraction) × (l.low ≡ Some low) × (value <ᶠ low)). not_le_f value k.0 k.2 (h.above_low k.0 k.1))
     o
 
-pub within_iff_not_outside : (l : Limits) (value : Fraction) → IsWithin l value ↔ (¬ IsOutside l value)
+pub within_iff_not_outside : (l : Bounds) (value : Fraction) → IsWithin l value ↔ (¬ IsOutside l value)
 within_iff_not_outside l value = (within_not_outside l value, within_by_not_outside l value)
 
 abbrev BelowLow : Option Fraction → Fraction → Type 0
@@ -59,7 +62,7 @@ high_side (Some b) value = ⊎_elim
     (λ (l : value ≤ᶠ b). inr (λ high e. subst (λ z. value ≤ᶠ z) (same_Some b high e) l))
     (lt_or_le_f b value)
 
-pub outside_or_within : (l : Limits) (value : Fraction) → IsOutside l value ⊎ IsWithin l value
+pub outside_or_within : (l : Bounds) (value : Fraction) → IsOutside l value ⊎ IsWithin l value
 outside_or_within l value = ⊎_elim
     (λ (o : AboveHigh l.high value). inl (inl o))
     (λ (h : (high : Fraction) → l.high ≡ Some high → value ≤ᶠ high). ⊎_elim
@@ -69,7 +72,7 @@ outside_or_within l value = ⊎_elim
     (high_side l.high value)
 
 -- what stands at a bound is within uncrossed bounds
-pub within_at_stand : (l : Limits) (s : Stand) (value : Fraction) → ¬ (s ≡ Basic) → IsUncrossed l → StandsAt l s value → IsWithin l value
+pub within_at_stand : (l : Bounds) (s : Stand) (value : Fraction) → ¬ (s ≡ Basic) → IsUncrossed l → StandsAt l s value → IsWithin l value
 within_at_stand l Basic value n u h = absurd (n refl)
 within_at_stand l Lower value n u h = record {
   above_low = λ low e. subst (λ z. low ≤ᶠ z) (one_of l.low low value e h) (le_refl_f low);
@@ -86,25 +89,25 @@ within_at_stand l Zero value n u h = record {
 
 -- ---- complementary
 -- a reduced cost of 0 asks for nothing
-pub complementary_zero : (l : Limits) (value d : Fraction) → d ≡ zero_f → IsComplementary l value d
+pub complementary_zero : (l : Bounds) (value d : Fraction) → d ≡ zero_f → IsComplementary l value d
 complementary_zero l value d e = record {
   positive = λ k. absurd (lt_irrefl_f zero_f (subst (λ z. zero_f <ᶠ z) e k));
   negative = λ k. absurd (lt_irrefl_f zero_f (subst (λ z. z <ᶠ zero_f) e k));
 }
 
-complementary_fixed : (l : Limits) (s : Stand) (value d : Fraction) → ¬ (s ≡ Basic) → IsFixed l → StandsAt l s value → IsComplementary l value d
+complementary_fixed : (l : Bounds) (s : Stand) (value d : Fraction) → ¬ (s ≡ Basic) → IsFixed l → StandsAt l s value → IsComplementary l value d
 complementary_fixed l Basic value d n x h = absurd (n refl)
 complementary_fixed l Lower value d n x h = record { positive = λ k. h; negative = λ k. x.2 ∙ ap Some (one_of l.low x.0 value x.1 h) }
 complementary_fixed l Upper value d n x h = record { positive = λ k. x.1 ∙ ap Some (one_of l.high x.0 value x.2 h); negative = λ k. h }
 complementary_fixed l Zero value d n x h = absurd (none_of l.low x.0 h.0 x.1)
 
-complementary_signed : (l : Limits) (s : Stand) (value d : Fraction) → ¬ (s ≡ Basic) → IsSignedFor s d → StandsAt l s value → IsComplementary l value d
+complementary_signed : (l : Bounds) (s : Stand) (value d : Fraction) → ¬ (s ≡ Basic) → IsSignedFor s d → StandsAt l s value → IsComplementary l value d
 complementary_signed l Basic value d n g h = absurd (n refl)
 complementary_signed l Lower value d n g h = record { positive = λ k. h; negative = λ k. absurd (not_le_f d zero_f k g) }
 complementary_signed l Upper value d n g h = record { positive = λ k. absurd (not_le_f zero_f d k g); negative = λ k. h }
 complementary_signed l Zero value d n g h = complementary_zero l value d g
 
-pub complementary_at_stand : (l : Limits) (s : Stand) (value d : Fraction) → ¬ (s ≡ Basic) → (¬ IsFixed l → IsSignedFor s d) → StandsAt l s value → IsComplementary l value d
+pub complementary_at_stand : (l : Bounds) (s : Stand) (value d : Fraction) → ¬ (s ≡ Basic) → (¬ IsFixed l → IsSignedFor s d) → StandsAt l s value → IsComplementary l value d
 complementary_at_stand l s value d n g h = ⊎_elim
     (λ (x : IsFixed l). complementary_fixed l s value d n x h)
     (λ (x : ¬ IsFixed l). complementary_signed l s value d n (g x) h)

@@ -9,7 +9,8 @@ use Rattle.std.proofs.lemmas.List.Sorted.{IsPermutation-trans, IsPermutation-to_
 use Rattle.pami_theory.specs.Form.{Form, limits}
 use Rattle.pami_theory.specs.Basis.{Basis, head_at}
 use Rattle.pami_theory.specs.Fresh.{Fresh, value_at_place}
-use Rattle.pami_theory.specs.Violation.{Violation, violation}
+use Rattle.pami_theory.specs.declared.words.Violation.{Violation}
+use Rattle.pami_theory.specs.Violation.{violation}
 use Rattle.pami_theory.specs.Order.{put_in, ordered}
 use Rattle.pami_theory.specs.Choice.{InfeasibleRow, row_of, infeasible_at, is_chosen_before, infeasible_rows}
 use Rattle.pami_theory.specs.Weights.{weight_at}

@@ -8,7 +8,9 @@ use Rattle.pami_algebra.proofs.Strict.{lt_or_le_f, not_le_f}
 use Rattle.pami_linear.specs.Lists.{get}
 use Rattle.pami_linear.proofs.Sums.{dot_same}
 use Rattle.pami_theory.specs.Form.{Form, variables, limits, coefficient, zero_f}
-use Rattle.pami_theory.specs.Basis.{Stand, Basic, Lower, Upper, Zero, Basis, stand_at, IsBasis}
+use Rattle.pami_theory.specs.declared.words.Stand.{Stand}
+use Rattle.pami_theory.specs.declared.words.Stand.TheVariants.{Basic, Lower, Upper, Zero}
+use Rattle.pami_theory.specs.Basis.{Basis, stand_at, IsBasis}
 use Rattle.pami_theory.specs.Fresh.{IsFixed, IsSignedFor, IsDualFeasible, Fresh, IsFresh}
 use Rattle.pami_theory.specs.Boxes.{boxes_of, CanBeDualFeasible, switched_basis}
 use Rattle.pami_theory.specs.Certificate.{IsLeastProduct, HoldsInfeasible}

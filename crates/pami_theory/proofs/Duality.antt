@@ -10,7 +10,8 @@ use Rattle.pami_algebra.proofs.Bounds.{le_moved_f, le_by, gap_of}
 use Rattle.pami_algebra.proofs.Products.{add_le_left_f}
 use Rattle.pami_linear.specs.Sums.{sum_to, dot}
 use Rattle.pami_linear.proofs.Sums.{sum_same, sum_add, sum_append, sum_le, dot_same, both_orders}
-use Rattle.pami_theory.specs.Form.{Form, Limits, limits, entry, cost, variables, row_variable, zero_f, IsPoint, IsWithin, IsFeasible}
+use Rattle.pami_frac.specs.declared.list.Bounds.{Bounds}
+use Rattle.pami_theory.specs.Form.{Form, limits, entry, cost, variables, row_variable, zero_f, IsPoint, IsWithin, IsFeasible}
 use Rattle.pami_theory.specs.Certificate.{IsComplementary, HoldsOptimal, objective_of}
 use Rattle.pami_theory.proofs.Forms.{point_rows}
 
@@ -41,7 +42,7 @@ scaled_down d p q h k = le_by (d *ᶠ p) (d *ᶠ q) ((zero_f -ᶠ d) *ᶠ (p -�
     (by_ring_f (d ∷ p ∷ q ∷ []) (var 0 ⊗ var 2) (var 0 ⊗ var 1 ⊕ (t0 ⊕ ⊖ (var 0)) ⊗ (var 1 ⊕ ⊖ (var 2))) refl)
 
 -- each variable: no value within its bounds costs less than the complementary one
-pub complementary_le : (l : Limits) (value other d : Fraction) → IsComplementary l value d → IsWithin l other → (d *ᶠ value) ≤ᶠ (d *ᶠ other)
+pub complementary_le : (l : Bounds) (value other d : Fraction) → IsComplementary l value d → IsWithin l other → (d *ᶠ value) ≤ᶠ (d *ᶠ other)
 complementary_le l value other d h k = ⊎_elim
     (λ (n : d <ᶠ zero_f). scaled_down d value other (lt_le_f d zero_f n) (k.below_high value (h.negative n)))
     (λ (n : (d ≡ zero_f) ⊎ (zero_f <ᶠ d)). ⊎_elim

@@ -12,8 +12,10 @@ use Rattle.pami_algebra.proofs.Products.{neg_nonneg_f}
 use Rattle.pami_linear.specs.Sums.{sum_to, dot}
 use Rattle.pami_linear.proofs.Sums.{sum_same, sum_none, sum_neg, sum_sub, sum_append, sum_le, sum_nonneg, both_orders, dot_comm}
 use Rattle.pami_linear.proofs.Units.{dot_none}
-use Rattle.pami_theory.specs.Form.{Form, Limits, variables, limits, coefficient, cost, cost_of, IsPoint, IsWithin, IsFeasible, zero_f}
-use Rattle.pami_theory.specs.Basis.{Basic, Basis, stand_at, IsBasis}
+use Rattle.pami_frac.specs.declared.list.Bounds.{Bounds}
+use Rattle.pami_theory.specs.Form.{Form, variables, limits, coefficient, cost, cost_of, IsPoint, IsWithin, IsFeasible, zero_f}
+use Rattle.pami_theory.specs.declared.words.Stand.TheVariants.{Basic}
+use Rattle.pami_theory.specs.Basis.{Basis, stand_at, IsBasis}
 use Rattle.pami_theory.specs.Fresh.{IsDualFeasible}
 use Rattle.pami_theory.specs.Certificate.{IsComplementary, IsLeastProduct, HoldsInfeasible, HoldsDualInfeasible, IsDualPoint}
 use Rattle.pami_theory.proofs.Forms.{cost_of_column, cost_of_row}
@@ -29,7 +31,7 @@ rows_vanish f y x h =
     ∙ dot_none f.rows (λ i. sum_to (variables f) (λ v. coefficient f v i *ᶠ x v)) y h.at
 
 -- ---- infeasible
-least_at_most : (l : Limits) (k t x : Fraction) → IsLeastProduct l k t → IsWithin l x → t ≤ᶠ (k *ᶠ x)
+least_at_most : (l : Bounds) (k t x : Fraction) → IsLeastProduct l k t → IsWithin l x → t ≤ᶠ (k *ᶠ x)
 least_at_most l k t x h w = ⊎_elim
     (λ (n : k <ᶠ zero_f). let m = h.1 n in subst (λ z. z ≤ᶠ (k *ᶠ x)) (sym m.2) (scaled_down k m.0 x (lt_le_f k zero_f n) (w.below_high m.0 m.1)))
     (λ (n : (k ≡ zero_f) ⊎ (zero_f <ᶠ k)). ⊎_elim

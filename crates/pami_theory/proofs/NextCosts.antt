@@ -16,10 +16,16 @@ use Rattle.pami_algebra.proofs.Tests.{is_below_iff, not_below_iff, not_zero_iff}
 use Rattle.pami_linear.specs.Lists.{get}
 use Rattle.pami_linear.specs.Sums.{dot, unit}
 use Rattle.pami_linear.proofs.Sums.{dot_add, dot_scale, unit_same, unit_other}
-use Rattle.pami_theory.specs.Form.{Form, Limits, variables, limits, row_variable, coefficient, cost_of, zero_f}
-use Rattle.pami_theory.specs.Basis.{Stand, Basic, Lower, Upper, Zero, Basis, head_at, stand_at, StandsAt, IsBasis}
+use Rattle.pami_frac.specs.declared.list.Bounds.{Bounds}
+use Rattle.pami_theory.specs.Form.{Form, variables, limits, row_variable, coefficient, cost_of, zero_f}
+use Rattle.pami_theory.specs.declared.words.Stand.{Stand}
+use Rattle.pami_theory.specs.declared.words.Stand.TheVariants.{Basic, Lower, Upper, Zero}
+use Rattle.pami_theory.specs.Basis.{Basis, head_at, stand_at, StandsAt, IsBasis}
 use Rattle.pami_theory.specs.Fresh.{AreReducedCosts, IsFixed, IsSignedFor, IsDualFeasible, Fresh, row_at, IsFresh}
-use Rattle.pami_theory.specs.Violation.{Side, Above, Below, Violation, is_fixed}
+use Rattle.pami_theory.specs.declared.words.Side.{Side}
+use Rattle.pami_theory.specs.declared.words.Side.TheVariants.{Above, Below}
+use Rattle.pami_theory.specs.declared.words.Violation.{Violation}
+use Rattle.pami_theory.specs.Violation.{is_fixed}
 use Rattle.pami_theory.specs.Ratio.{Leaving, toward, turned_entry, may_enter, is_candidate, ratio, walks_before, IsEntering}
 use Rattle.pami_theory.specs.Step.{Step, leaving_at, TakesStep, flipped, stand_on, stand_after, basis_after}
 use Rattle.pami_theory.proofs.Starts.{basic_cost}
@@ -191,7 +197,7 @@ leaving_signed : (side : Side) (tau : Fraction) → zero_f ≤ᶠ tau → IsSign
 leaving_signed Above tau h = neg_nonpos_f tau h
 leaving_signed Below tau h = subst (λ z. zero_f ≤ᶠ z) (by_ring_f (tau ∷ []) (var 0) (⊖ (⊖ (var 0))) refl) h
 
-stands_zero : (l : Limits) (s : Stand) (value w : Fraction) → StandsAt l s value → IsWidth l w → ¬ (s ≡ Zero)
+stands_zero : (l : Bounds) (s : Stand) (value w : Fraction) → StandsAt l s value → IsWidth l w → ¬ (s ≡ Zero)
 stands_zero l s value w h k e = let z = subst (λ t. StandsAt l t value) e h in none-some k.0 (sym z.0 ∙ k.2)
 
 signed_behind : (f : Form) (b : Basis) (s : Fresh) (p : ℕ) (v : Violation) (q : ℕ) → IsBasis f b → IsFresh f b s → p < f.rows → SignedAt f b s → IsEntering f b (leaving_at s p v) q → (u : ℕ) → u < variables f → ¬ IsFixed (limits f u) → IsSignedFor (stand_after b (step_of f b s p v q) u) (reduced_behind f s p v (ratio f (leaving_at s p v) q) u)

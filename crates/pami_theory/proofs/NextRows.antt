@@ -11,7 +11,7 @@ use Rattle.pami_linear.proofs.Regular.{one_combination, one_solution, solves_to_
 use Rattle.pami_theory.specs.Form.{Form, variables, coefficient}
 use Rattle.pami_theory.specs.Basis.{Basis, IsBasis, basis_column}
 use Rattle.pami_theory.specs.Fresh.{Fresh, row_at, column_at, IsFresh}
-use Rattle.pami_theory.specs.Violation.{Violation}
+use Rattle.pami_theory.specs.declared.words.Violation.{Violation}
 use Rattle.pami_theory.specs.Ratio.{row_entry}
 use Rattle.pami_theory.specs.Step.{Step, TakesStep, basis_after}
 use Rattle.pami_theory.proofs.Solved.{fresh_regular}

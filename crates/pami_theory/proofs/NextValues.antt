@@ -13,10 +13,16 @@ use Rattle.pami_linear.specs.Systems.{Solves}
 use Rattle.pami_linear.proofs.Sums.{sum_same, sum_add, sum_sub, sum_swap, sum_scale, sum_unit, sum_none, unit_same, unit_other}
 use Rattle.pami_linear.proofs.Systems.{row_meets_column}
 use Rattle.pami_linear.proofs.Regular.{solution}
-use Rattle.pami_theory.specs.Form.{Form, Limits, variables, limits, coefficient, IsPoint, zero_f}
-use Rattle.pami_theory.specs.Basis.{Stand, Basic, Lower, Upper, Zero, Basis, head_at, stand_at, StandsAt, IsBasis, basis_column}
+use Rattle.pami_frac.specs.declared.list.Bounds.{Bounds}
+use Rattle.pami_theory.specs.Form.{Form, variables, limits, coefficient, IsPoint, zero_f}
+use Rattle.pami_theory.specs.declared.words.Stand.{Stand}
+use Rattle.pami_theory.specs.declared.words.Stand.TheVariants.{Basic, Lower, Upper, Zero}
+use Rattle.pami_theory.specs.Basis.{Basis, head_at, stand_at, StandsAt, IsBasis, basis_column}
 use Rattle.pami_theory.specs.Fresh.{AreValues, Fresh, row_at, column_at, value_at_place, IsFresh}
-use Rattle.pami_theory.specs.Violation.{Side, Above, Below, Violation, IsPast, value_or_zero, passed_bound, width}
+use Rattle.pami_theory.specs.declared.words.Side.{Side}
+use Rattle.pami_theory.specs.declared.words.Side.TheVariants.{Above, Below}
+use Rattle.pami_theory.specs.declared.words.Violation.{Violation}
+use Rattle.pami_theory.specs.Violation.{IsPast, value_or_zero, passed_bound, width}
 use Rattle.pami_theory.specs.Ratio.{row_entry, walks_before}
 use Rattle.pami_theory.specs.Step.{Step, leaving_at, TakesStep, flipped, stand_on, basis_after, change_by, flip_change, flips_change, theta}
 use Rattle.pami_theory.proofs.Certificates.{basic_or_not}
@@ -191,7 +197,7 @@ moved_leaves f b s t z m h =
     ∙ by_ring_f (x ∷ change ∷ bound ∷ []) (var 0 ⊕ ⊖ (var 1 ⊕ ((var 0 ⊕ ⊖ (var 1)) ⊕ ⊖ (var 2)))) (var 2) refl
 
 -- ---- where each variable stands
-flip_stands : (l : Limits) (s : Stand) (x w : Fraction) → StandsAt l s x → IsWidth l w → StandsAt l (flipped s) (x +ᶠ change_by s w)
+flip_stands : (l : Bounds) (s : Stand) (x w : Fraction) → StandsAt l s x → IsWidth l w → StandsAt l (flipped s) (x +ᶠ change_by s w)
 flip_stands l Basic x w h k = tt
 flip_stands l Lower x w h k = k.3 ∙ ap Some (by_ring_f (k.0 ∷ k.1 ∷ []) (var 1) (var 0 ⊕ (var 1 ⊕ ⊖ (var 0))) refl ∙ ap (λ z. z +ᶠ (k.1 -ᶠ k.0)) (same_Some k.0 x (sym k.2 ∙ h)) ∙ ap (λ z. x +ᶠ z) (sym k.5))
 flip_stands l Upper x w h k = k.2 ∙ ap Some (by_ring_f (k.0 ∷ k.1 ∷ []) (var 0) (var 1 ⊕ ⊖ (var 1 ⊕ ⊖ (var 0))) refl ∙ ap (λ z. z +ᶠ neg_f (k.1 -ᶠ k.0)) (same_Some k.1 x (sym k.3 ∙ h)) ∙ ap (λ z. x +ᶠ neg_f z) (sym k.5))
@@ -222,7 +228,7 @@ pub moved_values : (f : Form) (b : Basis) (s : Fresh) (t : Step) (z : ℕ → Fr
 moved_values f b s t z m h = record { point = moved_point f b s t z m h; nonbasic = moved_stands f b s t z m h }
 
 -- ---- of the step of the walk
-bound_passed : (side : Side) (l : Limits) (value amount : Fraction) → IsPast side l value amount → StandsAt l (stand_on side) (passed_bound l side)
+bound_passed : (side : Side) (l : Bounds) (value amount : Fraction) → IsPast side l value amount → StandsAt l (stand_on side) (passed_bound l side)
 bound_passed Above l value amount h = subst (λ z. l.high ≡ Some z) (sym (ap value_or_zero h.1)) h.1
 bound_passed Below l value amount h = subst (λ z. l.low ≡ Some z) (sym (ap value_or_zero h.1)) h.1
 

@@ -16,10 +16,16 @@ use Rattle.pami_algebra.proofs.Tests.{is_below_iff, not_below_iff, is_zero_iff, 
 use Rattle.pami_linear.specs.Lists.{get}
 use Rattle.pami_linear.specs.Sums.{sum_to, dot, unit}
 use Rattle.pami_linear.proofs.Sums.{sum_same, sum_add, sum_sub, sum_neg, sum_unit, dot_neg, unit_same, unit_other}
-use Rattle.pami_theory.specs.Form.{Form, Limits, variables, limits, coefficient, zero_f}
-use Rattle.pami_theory.specs.Basis.{Stand, Basic, Lower, Upper, Zero, Basis, head_at, stand_at, StandsAt, IsBasis}
+use Rattle.pami_frac.specs.declared.list.Bounds.{Bounds}
+use Rattle.pami_theory.specs.Form.{Form, variables, limits, coefficient, zero_f}
+use Rattle.pami_theory.specs.declared.words.Stand.{Stand}
+use Rattle.pami_theory.specs.declared.words.Stand.TheVariants.{Basic, Lower, Upper, Zero}
+use Rattle.pami_theory.specs.Basis.{Basis, head_at, stand_at, StandsAt, IsBasis}
 use Rattle.pami_theory.specs.Fresh.{Fresh, row_at, value_at_place, IsFresh}
-use Rattle.pami_theory.specs.Violation.{Side, Above, Below, Violation, violation, IsPast, value_or_zero, width, is_fixed}
+use Rattle.pami_theory.specs.declared.words.Side.{Side}
+use Rattle.pami_theory.specs.declared.words.Side.TheVariants.{Above, Below}
+use Rattle.pami_theory.specs.declared.words.Violation.{Violation}
+use Rattle.pami_theory.specs.Violation.{violation, IsPast, value_or_zero, width, is_fixed}
 use Rattle.pami_theory.specs.Ratio.{Leaving, toward, turned_entry, may_enter, is_candidate, absolute, lowered_by, flip_lowers, lowered_before, walk_order, walks_before, stops_at, ends_at, ratio_walk, Entering}
 use Rattle.pami_theory.specs.Step.{leaving_at, step_by, step_at}
 use Rattle.pami_theory.specs.Certificate.{IsLeastProduct, HoldsInfeasible}
@@ -32,35 +38,35 @@ use Rattle.pami_theory.proofs.Slopes.{list_sum, list_sum_append, list_sum_filter
 use Rattle.pami_theory.proofs.Violations.{width_is, fixed_iff, violation_past, violation_positive}
 
 -- ---- the least product at a variable with the turned entry a
-abbrev pub least_at : Limits → Fraction → Fraction
+abbrev pub least_at : Bounds → Fraction → Fraction
 least_at l a = neg_f a *ᶠ (if is_below zero_f a then value_or_zero l.high else value_or_zero l.low)
 
-least_above : (l : Limits) (a high : Fraction) → zero_f <ᶠ a → l.high ≡ Some high → least_at l a ≡ neg_f a *ᶠ high
+least_above : (l : Bounds) (a high : Fraction) → zero_f <ᶠ a → l.high ≡ Some high → least_at l a ≡ neg_f a *ᶠ high
 least_above l a high h e = ap (λ c. neg_f a *ᶠ (if c then value_or_zero l.high else value_or_zero l.low)) ((is_below_iff zero_f a).1 h) ∙ ap (λ o. neg_f a *ᶠ value_or_zero o) e
 
-least_below : (l : Limits) (a low : Fraction) → a <ᶠ zero_f → l.low ≡ Some low → least_at l a ≡ neg_f a *ᶠ low
+least_below : (l : Bounds) (a low : Fraction) → a <ᶠ zero_f → l.low ≡ Some low → least_at l a ≡ neg_f a *ᶠ low
 least_below l a low h e = ap (λ c. neg_f a *ᶠ (if c then value_or_zero l.high else value_or_zero l.low)) ((not_below_iff zero_f a).1 (lt_le_f a zero_f h)) ∙ ap (λ o. neg_f a *ᶠ value_or_zero o) e
 
-least_none : (l : Limits) (a : Fraction) → a ≡ zero_f → least_at l a ≡ zero_f
+least_none : (l : Bounds) (a : Fraction) → a ≡ zero_f → least_at l a ≡ zero_f
 least_none l a e =
     let bound : Fraction = if is_below zero_f a then value_or_zero l.high else value_or_zero l.low in
     ap (λ z. neg_f z *ᶠ bound) e ∙ by_ring_f (bound ∷ []) (⊖ t0 ⊗ var 0) t0 refl
 
-product_above : (l : Limits) (a high : Fraction) → zero_f <ᶠ a → l.high ≡ Some high → IsLeastProduct l (neg_f a) (least_at l a)
+product_above : (l : Bounds) (a high : Fraction) → zero_f <ᶠ a → l.high ≡ Some high → IsLeastProduct l (neg_f a) (least_at l a)
 product_above l a high h e = (
   λ k. absurd (lt_asymm_f zero_f (neg_f a) k (neg_below_f a h)),
   λ k. (high, e, least_above l a high h e),
   λ k. absurd (lt_irrefl_f zero_f (subst (λ z. z <ᶠ zero_f) k (neg_below_f a h))),
 )
 
-product_below : (l : Limits) (a low : Fraction) → a <ᶠ zero_f → l.low ≡ Some low → IsLeastProduct l (neg_f a) (least_at l a)
+product_below : (l : Bounds) (a low : Fraction) → a <ᶠ zero_f → l.low ≡ Some low → IsLeastProduct l (neg_f a) (least_at l a)
 product_below l a low h e = (
   λ k. (low, e, least_below l a low h e),
   λ k. absurd (lt_asymm_f (neg_f a) zero_f k (neg_above_f a h)),
   λ k. absurd (lt_irrefl_f zero_f (subst (λ z. zero_f <ᶠ z) k (neg_above_f a h))),
 )
 
-product_none : (l : Limits) (a : Fraction) → a ≡ zero_f → IsLeastProduct l (neg_f a) (least_at l a)
+product_none : (l : Bounds) (a : Fraction) → a ≡ zero_f → IsLeastProduct l (neg_f a) (least_at l a)
 product_none l a e =
     let n : neg_f a ≡ zero_f = ap neg_f e ∙ neg_nil_f in (
       λ k. absurd (lt_irrefl_f zero_f (subst (λ z. zero_f <ᶠ z) n k)),
@@ -93,13 +99,13 @@ absolute_below : (a : Fraction) → a <ᶠ zero_f → absolute a ≡ neg_f a
 absolute_below a h = ap (λ c. if c then neg_f a else a) ((is_below_iff a zero_f).1 h)
 
 -- the least product is there, and is that of the variable's value without what its flip would lower
-abbrev Lowest : Limits → Stand → Fraction → Fraction → Type 0
+abbrev Lowest : Bounds → Stand → Fraction → Fraction → Type 0
 Lowest l st x a = IsLeastProduct l (neg_f a) (least_at l a) × (least_at l a ≡ neg_f a *ᶠ x -ᶠ lowers (is_fixed l) (may_enter st a) (width l) a)
 
-abbrev Passes : Limits → Stand → Fraction → Type 0
+abbrev Passes : Bounds → Stand → Fraction → Type 0
 Passes l st a = is_fixed l ≡ false → may_enter st a ≡ true → (w : Fraction) × (width l ≡ Some w)
 
-as_it_stands : (l : Limits) (st : Stand) (x a : Fraction) → IsLeastProduct l (neg_f a) (least_at l a) → least_at l a ≡ neg_f a *ᶠ x → lowers (is_fixed l) (may_enter st a) (width l) a ≡ zero_f → Lowest l st x a
+as_it_stands : (l : Bounds) (st : Stand) (x a : Fraction) → IsLeastProduct l (neg_f a) (least_at l a) → least_at l a ≡ neg_f a *ᶠ x → lowers (is_fixed l) (may_enter st a) (width l) a ≡ zero_f → Lowest l st x a
 as_it_stands l st x a p e h = (p, e ∙ by_ring_f (a ∷ x ∷ []) (⊖ (var 0) ⊗ var 1) (⊖ (var 0) ⊗ var 1 ⊕ ⊖ t0) refl ∙ ap (λ z. neg_f a *ᶠ x -ᶠ z) (sym h))
 
 enters_nothing : (st : Stand) (a : Fraction) → a ≡ zero_f → may_enter st a ≡ false
@@ -108,7 +114,7 @@ enters_nothing Lower a e = (not_below_iff zero_f a).1 (subst (λ z. z ≤ᶠ zer
 enters_nothing Upper a e = (not_below_iff a zero_f).1 (subst (λ z. zero_f ≤ᶠ z) (sym e) (le_refl_f zero_f))
 enters_nothing Zero a e = ap not ((is_zero_iff a).1 e)
 
-lowest_none : (l : Limits) (st : Stand) (x a : Fraction) → a ≡ zero_f → Lowest l st x a
+lowest_none : (l : Bounds) (st : Stand) (x a : Fraction) → a ≡ zero_f → Lowest l st x a
 lowest_none l st x a e = as_it_stands l st x a (product_none l a e)
     (least_none l a e ∙ by_ring_f (x ∷ []) t0 (⊖ t0 ⊗ var 0) refl ∙ ap (λ z. neg_f z *ᶠ x) (sym e))
     (lowers_nothing (is_fixed l) (may_enter st a) (width l) a (enters_nothing st a e))
@@ -117,7 +123,7 @@ either_way : (c : Bool) → (c ≡ true) ⊎ (c ≡ false)
 either_way true = inl refl
 either_way false = inr refl
 
-lower_above : (l : Limits) (x a : Fraction) → l.low ≡ Some x → Passes l Lower a → zero_f <ᶠ a → Lowest l Lower x a
+lower_above : (l : Bounds) (x a : Fraction) → l.low ≡ Some x → Passes l Lower a → zero_f <ᶠ a → Lowest l Lower x a
 lower_above l x a e passes h = ⊎_elim
     (λ (c : is_fixed l ≡ true). let k = (fixed_iff l).0 c in
     as_it_stands l Lower x a (product_above l a k.0 h k.2) (least_above l a k.0 h k.2 ∙ ap (λ z. neg_f a *ᶠ z) (same_Some k.0 x (sym k.1 ∙ e))) (lowers_fixed (is_fixed l) (may_enter Lower a) (width l) a c))
@@ -135,7 +141,7 @@ lower_above l x a e passes h = ⊎_elim
     ))
     (either_way (is_fixed l))
 
-upper_below : (l : Limits) (x a : Fraction) → l.high ≡ Some x → Passes l Upper a → a <ᶠ zero_f → Lowest l Upper x a
+upper_below : (l : Bounds) (x a : Fraction) → l.high ≡ Some x → Passes l Upper a → a <ᶠ zero_f → Lowest l Upper x a
 upper_below l x a e passes h = ⊎_elim
     (λ (c : is_fixed l ≡ true). let k = (fixed_iff l).0 c in
     as_it_stands l Upper x a (product_below l a k.0 h k.1) (least_below l a k.0 h k.1 ∙ ap (λ z. neg_f a *ᶠ z) (same_Some k.0 x (sym k.2 ∙ e))) (lowers_fixed (is_fixed l) (may_enter Upper a) (width l) a c))
@@ -156,7 +162,7 @@ upper_below l x a e passes h = ⊎_elim
 by_sign : (a : Fraction) (P : Type 0) → (a <ᶠ zero_f → P) → (a ≡ zero_f → P) → (zero_f <ᶠ a → P) → P
 by_sign a P below none above = ⊎_elim below (λ (n : (a ≡ zero_f) ⊎ (zero_f <ᶠ a)). ⊎_elim none above n) (lt_trichotomy_f a zero_f)
 
-nonbasic_lowest : (l : Limits) (st : Stand) (x a : Fraction) → ¬ (st ≡ Basic) → StandsAt l st x → Passes l st a → Lowest l st x a
+nonbasic_lowest : (l : Bounds) (st : Stand) (x a : Fraction) → ¬ (st ≡ Basic) → StandsAt l st x → Passes l st a → Lowest l st x a
 nonbasic_lowest l Basic x a n h passes = absurd (n refl)
 nonbasic_lowest l Lower x a n h passes = by_sign a (Lowest l Lower x a)
     (λ s. as_it_stands l Lower x a (product_below l a x s h) (least_below l a x s h) (lowers_nothing (is_fixed l) (may_enter Lower a) (width l) a ((not_below_iff zero_f a).1 (lt_le_f a zero_f s))))
@@ -178,7 +184,7 @@ nonbasic_lowest l Zero x a n h passes = by_sign a (Lowest l Zero x a)
         (either_way (is_fixed l))
 
 -- ---- the leaving variable adds the distance
-leaving_lowest : (side : Side) (l : Limits) (x amount : Fraction) → IsPast side l x amount → IsLeastProduct l (neg_f (toward side (of_int (pos 1)))) (least_at l (toward side (of_int (pos 1)))) × (least_at l (toward side (of_int (pos 1))) ≡ neg_f (toward side (of_int (pos 1))) *ᶠ x +ᶠ amount)
+leaving_lowest : (side : Side) (l : Bounds) (x amount : Fraction) → IsPast side l x amount → IsLeastProduct l (neg_f (toward side (of_int (pos 1)))) (least_at l (toward side (of_int (pos 1)))) × (least_at l (toward side (of_int (pos 1))) ≡ neg_f (toward side (of_int (pos 1))) *ᶠ x +ᶠ amount)
 leaving_lowest Above l x amount h = (
   product_above l (of_int (pos 1)) h.0 zero_lt_one_f h.1,
   least_above l (of_int (pos 1)) h.0 zero_lt_one_f h.1 ∙ by_ring_f (h.0 ∷ x ∷ []) (⊖ t1 ⊗ var 0) (⊖ t1 ⊗ var 1 ⊕ (var 1 ⊕ ⊖ (var 0))) refl ∙ ap (λ z. neg_f (of_int (pos 1)) *ᶠ x +ᶠ z) (sym h.3),

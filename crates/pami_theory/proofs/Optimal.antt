@@ -2,7 +2,8 @@
 use Rattle.std.proofs.Common.{◌≡◌, ℕ, ◌<◌, None}
 use Rattle.pami_linear.specs.Lists.{get}
 use Rattle.pami_theory.specs.Form.{Form, variables, limits, row_variable, IsUncrossed}
-use Rattle.pami_theory.specs.Basis.{Basic, Basis, head_at, stand_at, IsBasis}
+use Rattle.pami_theory.specs.declared.words.Stand.TheVariants.{Basic}
+use Rattle.pami_theory.specs.Basis.{Basis, head_at, stand_at, IsBasis}
 use Rattle.pami_theory.specs.Fresh.{IsDualFeasible, Fresh, value_at_place, IsFresh}
 use Rattle.pami_theory.specs.Violation.{violation}
 use Rattle.pami_theory.specs.Certificate.{HoldsOptimal}

@@ -10,8 +10,11 @@ use Rattle.pami_linear.specs.Systems.{Solves}
 use Rattle.pami_linear.proofs.Sums.{sum_same, sum_none, sum_add, sum_swap, sum_only, sum_unit, unit_same, unit_other, dot_same}
 use Rattle.pami_linear.proofs.Systems.{solves_same}
 use Rattle.pami_linear.proofs.Regular.{solution, one_solution}
-use Rattle.pami_theory.specs.Form.{Form, Limits, variables, limits, coefficient, IsPoint, zero_f}
-use Rattle.pami_theory.specs.Basis.{Stand, Basic, Lower, Upper, Zero, Basis, head_at, stand_at, StandsAt, IsBasis, basis_column, IsRegularBasis}
+use Rattle.pami_frac.specs.declared.list.Bounds.{Bounds}
+use Rattle.pami_theory.specs.Form.{Form, variables, limits, coefficient, IsPoint, zero_f}
+use Rattle.pami_theory.specs.declared.words.Stand.{Stand}
+use Rattle.pami_theory.specs.declared.words.Stand.TheVariants.{Basic, Lower, Upper, Zero}
+use Rattle.pami_theory.specs.Basis.{Basis, head_at, stand_at, StandsAt, IsBasis, basis_column, IsRegularBasis}
 use Rattle.pami_theory.specs.Violation.{value_or_zero}
 use Rattle.pami_theory.specs.Fresh.{AreValues, standing_value, nonbasic_sum}
 use Rattle.pami_theory.proofs.Certificates.{basic_or_not}
@@ -48,13 +51,13 @@ at_head f b z p s l =
     ∙ ap (λ w. w *ᶠ z p) (unit_same (head_at b p)) ∙ one_mul_f (z p)
 
 -- ---- the value at which a nonbasic variable stands
-pub standing_is : (l : Limits) (s : Stand) (value : Fraction) → ¬ (s ≡ Basic) → StandsAt l s value → value ≡ standing_value l s
+pub standing_is : (l : Bounds) (s : Stand) (value : Fraction) → ¬ (s ≡ Basic) → StandsAt l s value → value ≡ standing_value l s
 standing_is l Basic value n h = absurd (n refl)
 standing_is l Lower value n h = sym (ap value_or_zero h)
 standing_is l Upper value n h = sym (ap value_or_zero h)
 standing_is l Zero value n h = h.2
 
-pub stands_there : (l : Limits) (s : Stand) (value : Fraction) → StandsAt l s value → StandsAt l s (standing_value l s)
+pub stands_there : (l : Bounds) (s : Stand) (value : Fraction) → StandsAt l s value → StandsAt l s (standing_value l s)
 stands_there l Basic value h = tt
 stands_there l Lower value h = subst (λ z. l.low ≡ Some z) (standing_is l Lower value (λ e. cc) h) h
 stands_there l Upper value h = subst (λ z. l.high ≡ Some z) (standing_is l Upper value (λ e. cc) h) h

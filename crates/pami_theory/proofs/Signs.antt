@@ -10,10 +10,14 @@ use Rattle.pami_algebra.specs.Operations.{◌-ᶠ◌, ◌≤ᶠ◌, ◌<ᶠ◌, 
 use Rattle.pami_algebra.proofs.Field.{sub_zero_f, sub_self_f, zero_or_not}
 use Rattle.pami_algebra.proofs.Strict.{le_by_not_f, lt_le_f}
 use Rattle.pami_algebra.proofs.Products.{below_num}
-use Rattle.pami_theory.specs.Form.{Form, Limits, limits, cost, variables, row_variable, cost_of, zero_f}
-use Rattle.pami_theory.specs.Basis.{Lower, Upper, stand_at}
+use Rattle.pami_frac.specs.Signs.{is_negative}
+use Rattle.pami_frac.proofs.Signs.{negative_means}
+use Rattle.pami_frac.specs.declared.list.Bounds.{Bounds}
+use Rattle.pami_theory.specs.Form.{Form, limits, cost, variables, row_variable, cost_of, zero_f}
+use Rattle.pami_theory.specs.declared.words.Stand.TheVariants.{Lower, Upper}
+use Rattle.pami_theory.specs.Basis.{stand_at}
 use Rattle.pami_theory.specs.Fresh.{IsFixed, IsSignedFor, IsDualFeasible}
-use Rattle.pami_theory.specs.Start.{is_negative, is_same, boxed_stand, stand_by, starting_stand, starting_basis}
+use Rattle.pami_theory.specs.Start.{is_same, boxed_stand, stand_by, starting_stand, starting_basis}
 use Rattle.pami_theory.proofs.Forms.{by_variable, cost_of_column}
 use Rattle.pami_theory.proofs.Starts.{start_row, start_stand, start_column, start_costs, start_costs_only}
 
@@ -50,13 +54,13 @@ lt_test : (m n : ℤ) → (int_lt m n ≡ true → m <ℤ n) × (m <ℤ n → in
 lt_test m n = (λ e. grind (arith, ints), λ l. grind (arith, ints))
 
 pub is_negative_iff : (q : Fraction) → IsTrue (is_negative q) ↔ (q <ᶠ zero_f)
-is_negative_iff q = (λ e. (below_num q).1 ((lt_test q.num (pos 0)).0 e), λ l. (lt_test q.num (pos 0)).1 ((below_num q).0 l))
+is_negative_iff q = negative_means q
 
 pub not_negative : (q : Fraction) → is_negative q ≡ false → zero_f ≤ᶠ q
 not_negative q e = le_by_not_f zero_f q (λ l. let k : is_negative q ≡ true = (is_negative_iff q).1 l in cc)
 
 -- ---- fixed or not
-abbrev pub FixedOrNot : Limits → Type 0
+abbrev pub FixedOrNot : Bounds → Type 0
 FixedOrNot l = IsFixed l ⊎ (¬ IsFixed l)
 
 fixed_cases : (low high : Option Fraction) → FixedOrNot (record { low = low; high = high })
@@ -67,7 +71,7 @@ fixed_cases (Some l) (Some h) = ⊎_elim
     (λ (n : ¬ (l -ᶠ h ≡ of_int (pos 0))). inr (λ k. n (ap (λ z. z -ᶠ h) (same_Some l k.0 k.1 ∙ sym (same_Some h k.0 k.2)) ∙ sub_self_f h)))
     (zero_or_not (l -ᶠ h))
 
-pub fixed_or_not : (l : Limits) → FixedOrNot l
+pub fixed_or_not : (l : Bounds) → FixedOrNot l
 fixed_or_not l = fixed_cases l.low l.high
 
 -- ---- the same number

@@ -7,9 +7,8 @@ use Rattle.pami_linear.specs.Lists.{get}
 use Rattle.pami_linear.specs.Sums.{dot, unit}
 use Rattle.pami_linear.specs.Systems.{Solves, IsRow}
 use Rattle.pami_linear.proofs.Sums.{dot_same}
-use Rattle.pami_linear.proofs.Systems.{solves_same, combines_same, solves_unit, row_meets_column}
+use Rattle.pami_linear.proofs.Systems.{solves_same, combines_same, solves_unit, row_meets_column, regular_same}
 use Rattle.pami_linear.proofs.Regular.{solution, one_solution, combination, one_combination, right_inverse_from_left, negated_units_regular}
-use Rattle.pami_linear.proofs.Systems.{regular_same}
 use Rattle.pami_theory.specs.Form.{Form, variables, row_variable, coefficient, cost_of, zero_f}
 use Rattle.pami_theory.specs.Basis.{Basis, head_at, IsBasis, basis_column, IsRegularBasis}
 use Rattle.pami_theory.specs.Fresh.{AreValues, AreReducedCosts, Fresh, row_at, column_at, IsFresh}

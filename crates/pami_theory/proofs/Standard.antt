@@ -7,7 +7,8 @@ use Rattle.pami_algebra.proofs.Laws.{add_nil_f}
 use Rattle.pami_linear.specs.Sums.{dot}
 use Rattle.pami_linear.proofs.Sums.{dot_comm}
 use Rattle.pami_theory.specs.Form.{Form, limits, entry, cost, variables, row_variable, cost_of, zero_f, IsWithin, IsUncrossed}
-use Rattle.pami_theory.specs.Basis.{Lower, Basis, head_at, StandsAt}
+use Rattle.pami_theory.specs.declared.words.Stand.TheVariants.{Lower}
+use Rattle.pami_theory.specs.Basis.{Basis, head_at, StandsAt}
 use Rattle.pami_theory.specs.Fresh.{AreValues, IsFixed, IsSignedFor, IsDualFeasible, IsOutside, IsInfeasible}
 use Rattle.pami_theory.specs.Start.{stand_by, starting_stand, starting_basis, IsStandard}
 use Rattle.pami_theory.specs.Certificate.{HoldsOptimal, objective_of}

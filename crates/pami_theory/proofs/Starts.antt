@@ -10,10 +10,14 @@ use Rattle.pami_algebra.proofs.Laws.{by_ring_f}
 use Rattle.pami_algebra.proofs.Field.{neg_nil_f, neg_neg_f}
 use Rattle.pami_linear.specs.Sums.{dot}
 use Rattle.pami_linear.proofs.Sums.{dot_same}
-use Rattle.pami_theory.specs.Form.{Form, Limits, limits, entry, cost, variables, row_variable, coefficient, cost_of, zero_f}
-use Rattle.pami_theory.specs.Basis.{Stand, Basic, Lower, Upper, Zero, Basis, head_at, stand_at, StandsAt, IsBasis}
+use Rattle.pami_frac.specs.declared.list.Bounds.{Bounds}
+use Rattle.pami_theory.specs.Form.{Form, limits, entry, cost, variables, row_variable, coefficient, cost_of, zero_f}
+use Rattle.pami_theory.specs.declared.words.Stand.{Stand}
+use Rattle.pami_theory.specs.declared.words.Stand.TheVariants.{Basic, Lower, Upper, Zero}
+use Rattle.pami_theory.specs.Basis.{Basis, head_at, stand_at, StandsAt, IsBasis}
 use Rattle.pami_theory.specs.Fresh.{AreValues, AreReducedCosts}
-use Rattle.pami_theory.specs.Start.{is_negative, is_same, boxed_stand, stand_by, starting_stand, starting_basis}
+use Rattle.pami_frac.specs.Signs.{is_negative}
+use Rattle.pami_theory.specs.Start.{is_same, boxed_stand, stand_by, starting_stand, starting_basis}
 use Rattle.pami_linear.proofs.Units.{dot_none}
 use Rattle.pami_theory.proofs.Forms.{by_variable, cost_of_row, dot_row_variable, point_rows, rows_point}
 
@@ -48,7 +52,7 @@ pub column_not_basic : (f : Form) (j : ℕ) → j < f.columns → ¬ (starting_s
 column_not_basic f j l e = stand_not_basic (limits f j).low (limits f j).high (cost f j) (sym (start_column f j l) ∙ e)
 
 -- ---- it is a basis
-abbrev AtStand : Limits → Stand → Type 0
+abbrev AtStand : Bounds → Stand → Type 0
 AtStand l s = (value : Fraction) × StandsAt l s value
 
 boxed_stands : (low high : Fraction) (fixed : Bool) (cost : Fraction) → AtStand (record { low = Some low; high = Some high }) (boxed_stand fixed cost)
@@ -128,7 +132,7 @@ start_costs_only f y d h v l = h.reduced v l ∙ nothing_less f y v (start_price
 
 -- ---- values
 -- a variable that isn't basic has one value where it stands
-pub stands_one : (l : Limits) (s : Stand) (a b : Fraction) → ¬ (s ≡ Basic) → StandsAt l s a → StandsAt l s b → a ≡ b
+pub stands_one : (l : Bounds) (s : Stand) (a b : Fraction) → ¬ (s ≡ Basic) → StandsAt l s a → StandsAt l s b → a ≡ b
 stands_one l Basic a b n h k = absurd (n refl)
 stands_one l Lower a b n h k = same_Some a b (sym h ∙ k)
 stands_one l Upper a b n h k = same_Some a b (sym h ∙ k)

@@ -15,10 +15,16 @@ use Rattle.pami_linear.specs.Systems.{replaced}
 use Rattle.pami_linear.proofs.Systems.{regular_same}
 use Rattle.pami_linear.proofs.Pivoted.{replaced_same, replaced_other}
 use Rattle.pami_linear.proofs.Regular.{regular_after_pivot}
-use Rattle.pami_theory.specs.Form.{Form, Limits, variables, limits, coefficient, zero_f}
-use Rattle.pami_theory.specs.Basis.{Stand, Basic, Lower, Upper, Zero, Basis, head_at, stand_at, StandsAt, IsBasis, basis_column, IsRegularBasis}
+use Rattle.pami_frac.specs.declared.list.Bounds.{Bounds}
+use Rattle.pami_theory.specs.Form.{Form, variables, limits, coefficient, zero_f}
+use Rattle.pami_theory.specs.declared.words.Stand.{Stand}
+use Rattle.pami_theory.specs.declared.words.Stand.TheVariants.{Basic, Lower, Upper, Zero}
+use Rattle.pami_theory.specs.Basis.{Basis, head_at, stand_at, StandsAt, IsBasis, basis_column, IsRegularBasis}
 use Rattle.pami_theory.specs.Fresh.{Fresh, row_at, column_at, value_at_place, IsFresh}
-use Rattle.pami_theory.specs.Violation.{Side, Above, Below, Violation, violation, IsPast, width, is_fixed}
+use Rattle.pami_theory.specs.declared.words.Side.{Side}
+use Rattle.pami_theory.specs.declared.words.Side.TheVariants.{Above, Below}
+use Rattle.pami_theory.specs.declared.words.Violation.{Violation}
+use Rattle.pami_theory.specs.Violation.{violation, IsPast, width, is_fixed}
 use Rattle.pami_theory.specs.Ratio.{Leaving, row_entry, toward, turned_entry, may_enter, is_candidate, IsEntering, Entering, entering_at, ratio_walk}
 use Rattle.pami_theory.specs.Step.{Step, leaving_at, step_by, step_at, TakesStep, flipped, stand_on, is_among, stand_after, basis_after}
 use Rattle.pami_theory.proofs.Tables.{tabled_length, tabled_at}
@@ -154,14 +160,14 @@ pub stand_there : (f : Form) (b : Basis) (t : Step) (v : ℕ) → IsBasis f b �
 stand_there f b t v is l = tabled_at (length b.stands) (stand_after b t) v Zero (omega (arith, l, is.variables_stand))
 
 -- ---- a basis
-abbrev AtStand : Limits → Stand → Type 0
+abbrev AtStand : Bounds → Stand → Type 0
 AtStand l s = (value : Fraction) × StandsAt l s value
 
-leaves_at_bound : (side : Side) (l : Limits) (value amount : Fraction) → IsPast side l value amount → AtStand l (stand_on side)
+leaves_at_bound : (side : Side) (l : Bounds) (value amount : Fraction) → IsPast side l value amount → AtStand l (stand_on side)
 leaves_at_bound Above l value amount h = (h.0, h.1)
 leaves_at_bound Below l value amount h = (h.0, h.1)
 
-flips_at_bound : (l : Limits) (s : Stand) (w : Fraction) → AtStand l s → IsWidth l w → AtStand l (flipped s)
+flips_at_bound : (l : Bounds) (s : Stand) (w : Fraction) → AtStand l s → IsWidth l w → AtStand l (flipped s)
 flips_at_bound l Basic w a h = (zero_f, tt)
 flips_at_bound l Lower w a h = (h.1, h.3)
 flips_at_bound l Upper w a h = (h.0, h.2)

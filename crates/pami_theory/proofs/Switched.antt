@@ -3,14 +3,17 @@ use Rattle.std.proofs.Common.{◌≡◌, ℕ, ◌<◌, Bool, true, false, if◌t
 use Rattle.pami_algebra.specs.Fraction.{Fraction}
 use Rattle.pami_algebra.specs.Operations.{is_below}
 use Rattle.pami_linear.specs.Lists.{get}
-use Rattle.pami_theory.specs.Form.{Form, Limits, variables, limits, zero_f}
-use Rattle.pami_theory.specs.Basis.{Stand, Basic, Lower, Upper, Zero, Basis, head_at, stand_at, StandsAt, IsBasis, IsRegularBasis}
+use Rattle.pami_frac.specs.declared.list.Bounds.{Bounds}
+use Rattle.pami_theory.specs.Form.{Form, variables, limits, zero_f}
+use Rattle.pami_theory.specs.declared.words.Stand.{Stand}
+use Rattle.pami_theory.specs.declared.words.Stand.TheVariants.{Basic, Lower, Upper, Zero}
+use Rattle.pami_theory.specs.Basis.{Basis, head_at, stand_at, StandsAt, IsBasis, IsRegularBasis}
 use Rattle.pami_theory.specs.Fresh.{AreReducedCosts}
 use Rattle.pami_theory.specs.Start.{is_same}
 use Rattle.pami_theory.specs.Boxes.{boxes_of, boxed_by, switched_by, unless_basic, switched_stand, switched_basis}
 use Rattle.pami_theory.proofs.Tables.{tabled_length, tabled_at}
 
-abbrev AtStand : Limits → Stand → Type 0
+abbrev AtStand : Bounds → Stand → Type 0
 AtStand l s = (value : Fraction) × StandsAt l s value
 
 boxed_stands : (low high d : Fraction) (fixed : Bool) → AtStand (record { low = Some low; high = Some high }) (boxed_by fixed d)
@@ -41,7 +44,7 @@ switched_not_basic (Some low) None d e = cc
 switched_not_basic None (Some high) d e = cc
 switched_not_basic (Some low) (Some high) d e = boxed_not_basic (is_same low high) d e
 
-unless_stands : (l : Limits) (s t : Stand) → AtStand l t → AtStand l (unless_basic s t)
+unless_stands : (l : Bounds) (s t : Stand) → AtStand l t → AtStand l (unless_basic s t)
 unless_stands l Basic t h = (zero_f, tt)
 unless_stands l Lower t h = h
 unless_stands l Upper t h = h

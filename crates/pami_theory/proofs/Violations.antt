@@ -6,9 +6,13 @@ use Rattle.pami_algebra.specs.Operations.{◌-ᶠ◌, ◌<ᶠ◌, is_below}
 use Rattle.pami_algebra.proofs.Strict.{lt_le_trans_f, lt_irrefl_f, lt_trans_f}
 use Rattle.pami_algebra.proofs.Products.{gap_above}
 use Rattle.pami_algebra.proofs.Tests.{is_below_iff}
-use Rattle.pami_theory.specs.Form.{Limits, IsUncrossed, zero_f}
+use Rattle.pami_frac.specs.declared.list.Bounds.{Bounds}
+use Rattle.pami_theory.specs.Form.{IsUncrossed, zero_f}
 use Rattle.pami_theory.specs.Fresh.{IsOutside, IsFixed}
-use Rattle.pami_theory.specs.Violation.{Side, Above, Below, Violation, below_low, above_high, violation, IsPast, width_by, width, fixed_by, is_fixed}
+use Rattle.pami_theory.specs.declared.words.Side.{Side}
+use Rattle.pami_theory.specs.declared.words.Side.TheVariants.{Above, Below}
+use Rattle.pami_theory.specs.declared.words.Violation.{Violation}
+use Rattle.pami_theory.specs.Violation.{below_low, above_high, violation, IsPast, width_by, width, fixed_by, is_fixed}
 use Rattle.pami_theory.proofs.Signs.{is_same_iff}
 
 -- ---- where it is found
@@ -28,7 +32,7 @@ high_found (Some high) value otherwise v e = go (is_below high value) refl e
     go true i k = inl (high, refl, (is_below_iff high value).0 i, sym (same_Some (record { side = Above; amount = value -ᶠ high }) v k))
     go false i k = inr k
 
-pub violation_past : (l : Limits) (value : Fraction) (v : Violation) → violation l value ≡ Some v → IsPast v.side l value v.amount
+pub violation_past : (l : Bounds) (value : Fraction) (v : Violation) → violation l value ≡ Some v → IsPast v.side l value v.amount
 violation_past l value v e = ⊎_elim
     (λ (h : (high : Fraction) × (l.high ≡ Some high) × (high <ᶠ value) × (v ≡ record { side = Above; amount = value -ᶠ high })).
     subst (λ (z : Violation). IsPast z.side l value z.amount) (sym h.3) (h.0, h.1, h.2, refl))
@@ -36,15 +40,15 @@ violation_past l value v e = ⊎_elim
     subst (λ (z : Violation). IsPast z.side l value z.amount) (sym k.3) (k.0, k.1, k.2, refl))
     (high_found l.high value (below_low l.low value) v e)
 
-pub past_positive : (s : Side) (l : Limits) (value amount : Fraction) → IsPast s l value amount → zero_f <ᶠ amount
+pub past_positive : (s : Side) (l : Bounds) (value amount : Fraction) → IsPast s l value amount → zero_f <ᶠ amount
 past_positive Above l value amount h = subst (λ z. zero_f <ᶠ z) (sym h.3) (gap_above h.0 value h.2)
 past_positive Below l value amount h = subst (λ z. zero_f <ᶠ z) (sym h.3) (gap_above value h.0 h.2)
 
-pub violation_positive : (l : Limits) (value : Fraction) (v : Violation) → violation l value ≡ Some v → zero_f <ᶠ v.amount
+pub violation_positive : (l : Bounds) (value : Fraction) (v : Violation) → violation l value ≡ Some v → zero_f <ᶠ v.amount
 violation_positive l value v e = past_positive v.side l value v.amount (violation_past l value v e)
 
 -- ---- and only there
-past_outside : (s : Side) (l : Limits) (value amount : Fraction) → IsPast s l value amount → IsOutside l value
+past_outside : (s : Side) (l : Bounds) (value amount : Fraction) → IsPast s l value amount → IsOutside l value
 past_outside Above l value amount h = inl (h.0, h.1, h.2)
 past_outside Below l value amount h = inr (h.0, h.1, h.2)
 
@@ -74,13 +78,13 @@ high_or_low (Some high) value otherwise w e = go (is_below high value)
     go true = (record { side = Above; amount = value -ᶠ high }, refl)
     go false = (w, e)
 
-pub outside_found : (l : Limits) (value : Fraction) → IsOutside l value → (v : Violation) × (violation l value ≡ Some v)
+pub outside_found : (l : Bounds) (value : Fraction) → IsOutside l value → (v : Violation) × (violation l value ≡ Some v)
 outside_found l value o = ⊎_elim
     (λ (h : (high : Fraction) × (l.high ≡ Some high) × (high <ᶠ value)). (record { side = Above; amount = value -ᶠ h.0 }, finds_high l.high value h.0 (below_low l.low value) h.1 h.2))
     (λ (h : (low : Fraction) × (l.low ≡ Some low) × (value <ᶠ low)). high_or_low l.high value (below_low l.low value) (record { side = Below; amount = h.0 -ᶠ value }) (finds_low l.low value h.0 h.1 h.2))
     o
 
-pub violation_none : (l : Limits) (value : Fraction) → violation l value ≡ None ↔ (¬ IsOutside l value)
+pub violation_none : (l : Bounds) (value : Fraction) → violation l value ≡ None ↔ (¬ IsOutside l value)
 violation_none l value = (
   λ e o. let v = outside_found l value o in none-some v.0 (sym e ∙ v.1),
   λ n. go (violation l value) refl n,
@@ -91,7 +95,7 @@ violation_none l value = (
     go (Some v) e n = absurd (n (past_outside v.side l value v.amount (violation_past l value v e)))
 
 -- where the bounds are in order, a value is past one of them alone
-pub past_violation : (s : Side) (l : Limits) (value amount : Fraction) → IsUncrossed l → IsPast s l value amount → violation l value ≡ Some (record { side = s; amount = amount })
+pub past_violation : (s : Side) (l : Bounds) (value amount : Fraction) → IsUncrossed l → IsPast s l value amount → violation l value ≡ Some (record { side = s; amount = amount })
 past_violation Above l value amount u h = finds_high l.high value h.0 (below_low l.low value) h.1 h.2 ∙ ap (λ z. Some (record { side = Above; amount = z })) (sym h.3)
 past_violation Below l value amount u h =
     passes_high l.high value (below_low l.low value) (λ high e k. lt_irrefl_f high (lt_trans_f high value high k (lt_le_trans_f value h.0 high h.2 (u.ordered h.0 high h.1 e))))
@@ -99,7 +103,7 @@ past_violation Below l value amount u h =
     ∙ ap (λ z. Some (record { side = Below; amount = z })) (sym h.3)
 
 -- ---- widths
-abbrev pub IsWidth : Limits → Fraction → Type 0
+abbrev pub IsWidth : Bounds → Fraction → Type 0
 IsWidth l w = (low : Fraction) × (high : Fraction) × (l.low ≡ Some low) × (l.high ≡ Some high) × (low <ᶠ high) × (w ≡ high -ᶠ low)
 
 width_parts : (o p : Option Fraction) (w : Fraction) → width_by o p ≡ Some w → IsWidth (record { low = o; high = p }) w
@@ -111,16 +115,16 @@ width_parts (Some low) (Some high) w e = go (is_below low high) refl e
     go true i k = (low, high, refl, refl, (is_below_iff low high).0 i, sym (same_Some (high -ᶠ low) w k))
     go false i k = absurd (none-some w k)
 
-pub width_is : (l : Limits) (w : Fraction) → width l ≡ Some w → IsWidth l w
+pub width_is : (l : Bounds) (w : Fraction) → width l ≡ Some w → IsWidth l w
 width_is l w e = width_parts l.low l.high w e
 
-pub width_of : (l : Limits) (w : Fraction) → IsWidth l w → width l ≡ Some w
+pub width_of : (l : Bounds) (w : Fraction) → IsWidth l w → width l ≡ Some w
 width_of l w h =
     ap (λ z. width_by z l.high) h.2 ∙ ap (width_by (Some h.0)) h.3
     ∙ ap (λ c. if c then Some (h.1 -ᶠ h.0) else None) ((is_below_iff h.0 h.1).1 h.4)
     ∙ ap Some (sym h.5)
 
-pub width_iff : (l : Limits) (w : Fraction) → width l ≡ Some w ↔ IsWidth l w
+pub width_iff : (l : Bounds) (w : Fraction) → width l ≡ Some w ↔ IsWidth l w
 width_iff l w = (width_is l w, width_of l w)
 
 -- ---- fixed variables
@@ -129,5 +133,5 @@ fixed_parts None p e = absurd (true≢false (sym e))
 fixed_parts (Some low) None e = absurd (true≢false (sym e))
 fixed_parts (Some low) (Some high) e = (low, refl, ap Some (sym ((is_same_iff low high).0 e)))
 
-pub fixed_iff : (l : Limits) → IsTrue (is_fixed l) ↔ IsFixed l
+pub fixed_iff : (l : Bounds) → IsTrue (is_fixed l) ↔ IsFixed l
 fixed_iff l = (fixed_parts l.low l.high, λ h. ap (λ z. fixed_by z l.high) h.1 ∙ ap (fixed_by (Some h.0)) h.2 ∙ (is_same_iff h.0 h.0).1 refl)

@@ -2,14 +2,10 @@
 use Rattle.std.specs.Prelude.{◌≡◌, ℕ, ◌<◌, List, length, None, Some, slice_index_or}
 use Rattle.pami_algebra.specs.Fraction.{Fraction}
 use Rattle.pami_linear.specs.Systems.{IsRegular}
-use Rattle.pami_theory.specs.Form.{Form, Limits, variables, limits, coefficient, zero_f}
-
--- in the basis, at the lower or the upper bound, or at 0
-pub data Stand : Type 0 where
-  Basic : Stand
-  Lower : Stand
-  Upper : Stand
-  Zero : Stand
+use Rattle.pami_theory.specs.declared.words.Stand.{Stand}
+use Rattle.pami_theory.specs.declared.words.Stand.TheVariants.{Basic, Lower, Upper, Zero}
+use Rattle.pami_frac.specs.declared.list.Bounds.{Bounds}
+use Rattle.pami_theory.specs.Form.{Form, variables, limits, coefficient, zero_f}
 
 pub record Basis : Type 0 where
   pub head : List ℕ  -- by place: the variable there; places are 0 .. rows-1
@@ -24,7 +20,7 @@ abbrev pub stand_at : Basis → ℕ → Stand
 stand_at b v = slice_index_or b.stands v Zero
 
 -- the bound at which a variable may stand so, and its value there
-abbrev pub StandsAt : Limits → Stand → Fraction → Type 0
+abbrev pub StandsAt : Bounds → Stand → Fraction → Type 0
 StandsAt l Basic value = Unit {0}
 StandsAt l Lower value = l.low ≡ Some value
 StandsAt l Upper value = l.high ≡ Some value

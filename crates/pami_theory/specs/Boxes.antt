@@ -6,22 +6,25 @@ use lib.IntN.{pos, negsuc}
 use Rattle.pami_algebra.specs.Fraction.{Fraction}
 use Rattle.pami_algebra.specs.Operations.{of_int, is_below}
 use Rattle.pami_linear.specs.Lists.{get}
-use Rattle.pami_theory.specs.Form.{Form, Limits, limits, zero_f}
-use Rattle.pami_theory.specs.Basis.{Stand, Basic, Lower, Upper, Zero, Basis, stand_at, IsBasis}
+use Rattle.pami_frac.specs.declared.list.Bounds.{Bounds}
+use Rattle.pami_theory.specs.Form.{Form, limits, zero_f}
+use Rattle.pami_theory.specs.declared.words.Stand.{Stand}
+use Rattle.pami_theory.specs.declared.words.Stand.TheVariants.{Basic, Lower, Upper, Zero}
+use Rattle.pami_theory.specs.Basis.{Basis, stand_at, IsBasis}
 use Rattle.pami_theory.specs.Fresh.{IsDualFeasible}
 use Rattle.pami_theory.specs.Start.{is_same}
 
-abbrev pub between : Fraction → Fraction → Limits
+abbrev pub between : Fraction → Fraction → Bounds
 between low high = record { low = Some low; high = Some high }
 
 -- 0 for a finite bound, and 1 away from it where there is none
-abbrev pub box_by : Option Fraction → Option Fraction → Limits
+abbrev pub box_by : Option Fraction → Option Fraction → Bounds
 box_by None None = between (of_int (negsuc 0)) (of_int (pos 1))
 box_by (Some low) None = between zero_f (of_int (pos 1))
 box_by None (Some high) = between (of_int (negsuc 0)) zero_f
 box_by (Some low) (Some high) = between zero_f zero_f
 
-abbrev pub box : Limits → Limits
+abbrev pub box : Bounds → Bounds
 box l = box_by l.low l.high
 
 -- the form with each variable in its box

@@ -3,10 +3,11 @@ use Rattle.std.specs.Prelude.{◌≡◌, ℕ, ◌<◌, Option, None, Some}
 use Rattle.pami_algebra.specs.Fraction.{Fraction}
 use Rattle.pami_algebra.specs.Operations.{◌+ᶠ◌, ◌-ᶠ◌, ◌*ᶠ◌, neg_f, ◌≤ᶠ◌, ◌<ᶠ◌}
 use Rattle.pami_linear.specs.Sums.{sum_to, dot}
-use Rattle.pami_theory.specs.Form.{Form, Limits, variables, limits, entry, coefficient, cost, cost_of, row_variable, IsPoint, IsFeasible, zero_f}
+use Rattle.pami_frac.specs.declared.list.Bounds.{Bounds}
+use Rattle.pami_theory.specs.Form.{Form, variables, limits, entry, coefficient, cost, cost_of, row_variable, IsPoint, IsFeasible, zero_f}
 
 -- a positive reduced cost only at a finite lower bound, a negative one only at a finite upper bound
-pub record IsComplementary (l : Limits) (value d : Fraction) : Type 0 where
+pub record IsComplementary (l : Bounds) (value d : Fraction) : Type 0 where
   pub positive : zero_f <ᶠ d → l.low ≡ Some value
   pub negative : d <ᶠ zero_f → l.high ≡ Some value
 
@@ -18,7 +19,7 @@ pub record HoldsOptimal (f : Form) (x d : ℕ → Fraction) : Type 0 where
   pub complementary : (v : ℕ) → v < variables f → IsComplementary (limits f v) (x v) (d v)
 
 -- t is the least value of k times a value within the limits
-abbrev pub IsLeastProduct : Limits → Fraction → Fraction → Type 0
+abbrev pub IsLeastProduct : Bounds → Fraction → Fraction → Type 0
 IsLeastProduct l k t =
     (zero_f <ᶠ k → (low : Fraction) × (l.low ≡ Some low) × (t ≡ k *ᶠ low))
     × (k <ᶠ zero_f → (high : Fraction) × (l.high ≡ Some high) × (t ≡ k *ᶠ high))

@@ -10,7 +10,8 @@ use Rattle.pami_algebra.specs.Size.{size, bits}
 use Rattle.pami_theory.specs.Form.{Form, limits}
 use Rattle.pami_theory.specs.Basis.{Basis, head_at}
 use Rattle.pami_theory.specs.Fresh.{Fresh, value_at_place}
-use Rattle.pami_theory.specs.Violation.{Violation, violation}
+use Rattle.pami_theory.specs.declared.words.Violation.{Violation}
+use Rattle.pami_theory.specs.Violation.{violation}
 use Rattle.pami_theory.specs.Order.{ordered}
 use Rattle.pami_theory.specs.Weights.{weight_at}
 

@@ -4,22 +4,18 @@ use Rattle.std.specs.Prelude.{◌≡◌, ℕ, ◌+◌, ◌-◌, ◌<◌, List, [
 use lib.IntN.{pos}
 use Rattle.pami_algebra.specs.Fraction.{Fraction}
 use Rattle.pami_algebra.specs.Operations.{of_int, neg_f, ◌≤ᶠ◌}
+use Rattle.pami_frac.specs.declared.list.Bounds.{Bounds}
 use Rattle.pami_linear.specs.Lists.{get}
 use Rattle.pami_linear.specs.Sums.{dot}
 
 abbrev pub zero_f : Fraction
 zero_f = of_int (pos 0)
 
--- a lower and an upper bound; None is no bound on that side
-pub record Limits : Type 0 where
-  pub low : Option Fraction
-  pub high : Option Fraction
-
 pub record Form : Type 0 where
   pub rows : ℕ
   pub columns : ℕ
   pub entries : List (List Fraction)  -- by column, then by row
-  pub bounds : List Limits  -- by variable
+  pub bounds : List Bounds  -- by variable
   pub costs : List Fraction  -- by column, as minimised
 
 -- the entry of row i in column j
@@ -27,7 +23,7 @@ abbrev pub entry : Form → ℕ → ℕ → Fraction
 entry f i j = get (slice_index_or f.entries j []) i
 
 -- the bounds of a variable
-abbrev pub limits : Form → ℕ → Limits
+abbrev pub limits : Form → ℕ → Bounds
 limits f v = slice_index_or f.bounds v (record { low = None; high = None })
 
 -- the cost of a column
@@ -55,12 +51,12 @@ pub record IsPoint (f : Form) (x : ℕ → Fraction) : Type 0 where
   pub at : (i : ℕ) → i < f.rows → dot (variables f) (λ v. coefficient f v i) x ≡ zero_f
 
 -- neither below the lower bound nor above the upper one
-pub record IsWithin (l : Limits) (value : Fraction) : Type 0 where
+pub record IsWithin (l : Bounds) (value : Fraction) : Type 0 where
   pub above_low : (low : Fraction) → l.low ≡ Some low → low ≤ᶠ value
   pub below_high : (high : Fraction) → l.high ≡ Some high → value ≤ᶠ high
 
 -- the lower bound isn't above the upper one
-pub record IsUncrossed (l : Limits) : Type 0 where
+pub record IsUncrossed (l : Bounds) : Type 0 where
   pub ordered : (low high : Fraction) → l.low ≡ Some low → l.high ≡ Some high → low ≤ᶠ high
 
 -- a point with each value within its bounds

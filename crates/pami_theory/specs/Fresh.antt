@@ -5,8 +5,11 @@ use Rattle.pami_algebra.specs.Operations.{◌-ᶠ◌, ◌≤ᶠ◌, ◌<ᶠ◌}
 use Rattle.pami_linear.specs.Lists.{get}
 use Rattle.pami_linear.specs.Sums.{dot}
 use Rattle.pami_linear.specs.Systems.{Solves, IsRow}
-use Rattle.pami_theory.specs.Form.{Form, Limits, variables, limits, row_variable, coefficient, cost_of, IsPoint, zero_f}
-use Rattle.pami_theory.specs.Basis.{Stand, Basic, Lower, Upper, Zero, Basis, head_at, stand_at, StandsAt, basis_column}
+use Rattle.pami_frac.specs.declared.list.Bounds.{Bounds}
+use Rattle.pami_theory.specs.Form.{Form, variables, limits, row_variable, coefficient, cost_of, IsPoint, zero_f}
+use Rattle.pami_theory.specs.declared.words.Stand.{Stand}
+use Rattle.pami_theory.specs.declared.words.Stand.TheVariants.{Basic, Lower, Upper, Zero}
+use Rattle.pami_theory.specs.Basis.{Basis, head_at, stand_at, StandsAt, basis_column}
 use Rattle.pami_theory.specs.Violation.{value_or_zero}
 
 -- B x_B = - N x_N: a point in which each nonbasic variable has the value at which it stands
@@ -15,7 +18,7 @@ pub record AreValues (f : Form) (b : Basis) (x : ℕ → Fraction) : Type 0 wher
   pub nonbasic : (v : ℕ) → v < variables f → StandsAt (limits f v) (stand_at b v) (x v)
 
 -- the value at which a nonbasic variable stands; 0 for a basic one
-abbrev pub standing_value : Limits → Stand → Fraction
+abbrev pub standing_value : Bounds → Stand → Fraction
 standing_value l Basic = zero_f
 standing_value l Lower = value_or_zero l.low
 standing_value l Upper = value_or_zero l.high
@@ -31,7 +34,7 @@ pub record AreReducedCosts (f : Form) (b : Basis) (y d : ℕ → Fraction) : Typ
   pub reduced : (v : ℕ) → v < variables f → d v ≡ cost_of f v -ᶠ dot f.rows y (coefficient f v)
 
 -- both bounds are finite and equal
-abbrev pub IsFixed : Limits → Type 0
+abbrev pub IsFixed : Bounds → Type 0
 IsFixed l = (value : Fraction) × (l.low ≡ Some value) × (l.high ≡ Some value)
 
 -- the sign that a reduced cost has where its variable stands
@@ -49,7 +52,7 @@ pub record IsDualFeasible (f : Form) (b : Basis) : Type 0 where
   pub signed : (v : ℕ) → v < variables f → ¬ IsFixed (limits f v) → IsSignedFor (stand_at b v) (d v)
 
 -- a value above its upper or below its lower bound
-abbrev pub IsOutside : Limits → Fraction → Type 0
+abbrev pub IsOutside : Bounds → Fraction → Type 0
 IsOutside l value = ((high : Fraction) × (l.high ≡ Some high) × (high <ᶠ value)) ⊎ ((low : Fraction) × (l.low ≡ Some low) × (value <ᶠ low))
 
 -- the basic variable of this place is outside of its bounds

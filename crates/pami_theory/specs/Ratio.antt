@@ -8,9 +8,14 @@ use Rattle.pami_algebra.specs.Operations.{◌+ᶠ◌, ◌*ᶠ◌, ◌/ᶠ◌, ne
 use Rattle.pami_linear.specs.Lists.{get}
 use Rattle.pami_linear.specs.Sums.{sum_to, dot}
 use Rattle.pami_theory.specs.Form.{Form, limits, variables, coefficient, zero_f}
-use Rattle.pami_theory.specs.Basis.{Stand, Basic, Lower, Upper, Zero, Basis, stand_at}
+use Rattle.pami_theory.specs.declared.words.Stand.{Stand}
+use Rattle.pami_theory.specs.declared.words.Stand.TheVariants.{Basic, Lower, Upper, Zero}
+use Rattle.pami_theory.specs.Basis.{Basis, stand_at}
 use Rattle.pami_theory.specs.Order.{ordered}
-use Rattle.pami_theory.specs.Violation.{Side, Above, Below, Violation, width, is_fixed}
+use Rattle.pami_theory.specs.declared.words.Side.{Side}
+use Rattle.pami_theory.specs.declared.words.Side.TheVariants.{Above, Below}
+use Rattle.pami_theory.specs.declared.words.Violation.{Violation}
+use Rattle.pami_theory.specs.Violation.{width, is_fixed}
 
 -- a place that leaves: how far its variable is outside, its row of the inverse (by row), the reduced costs (by variable)
 pub record Leaving : Type 0 where

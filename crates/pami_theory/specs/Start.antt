@@ -1,14 +1,12 @@
 -- The starting basis: each row variable at the place of its row, each column at a bound, or at 0 where it has none.
 use Rattle.std.specs.Prelude.{◌≡◌, ℕ, ◌<◌, Bool, false, map, Option, None, Some, if◌then◌else◌, nat_eq, nat_lt, int_lt}
 use Rattle.std.specs.List.{range_with_len}
-use lib.IntN.{pos}
 use Rattle.pami_algebra.specs.Fraction.{Fraction}
+use Rattle.pami_frac.specs.Signs.{is_negative}
 use Rattle.pami_theory.specs.Form.{Form, limits, cost, variables, row_variable, zero_f}
-use Rattle.pami_theory.specs.Basis.{Stand, Basic, Lower, Upper, Zero, Basis}
-
--- below 0
-abbrev pub is_negative : Fraction → Bool
-is_negative q = int_lt q.num (pos 0)
+use Rattle.pami_theory.specs.declared.words.Stand.{Stand}
+use Rattle.pami_theory.specs.declared.words.Stand.TheVariants.{Basic, Lower, Upper, Zero}
+use Rattle.pami_theory.specs.Basis.{Basis}
 
 -- the same number
 abbrev pub is_same : Fraction → Fraction → Bool

@@ -8,9 +8,14 @@ use Rattle.pami_algebra.specs.Operations.{◌+ᶠ◌, ◌-ᶠ◌, ◌*ᶠ◌, �
 use Rattle.pami_linear.specs.Lists.{get}
 use Rattle.pami_linear.specs.Sums.{dot}
 use Rattle.pami_theory.specs.Form.{Form, limits, coefficient, zero_f}
-use Rattle.pami_theory.specs.Basis.{Stand, Basic, Lower, Upper, Zero, Basis, head_at, stand_at, IsBasis}
+use Rattle.pami_theory.specs.declared.words.Stand.{Stand}
+use Rattle.pami_theory.specs.declared.words.Stand.TheVariants.{Basic, Lower, Upper, Zero}
+use Rattle.pami_theory.specs.Basis.{Basis, head_at, stand_at, IsBasis}
 use Rattle.pami_theory.specs.Fresh.{Fresh, row_at, value_at_place, IsFresh}
-use Rattle.pami_theory.specs.Violation.{Side, Above, Below, Violation, violation, passed_bound, value_or_zero, width}
+use Rattle.pami_theory.specs.declared.words.Side.{Side}
+use Rattle.pami_theory.specs.declared.words.Side.TheVariants.{Above, Below}
+use Rattle.pami_theory.specs.declared.words.Violation.{Violation}
+use Rattle.pami_theory.specs.Violation.{violation, passed_bound, value_or_zero, width}
 use Rattle.pami_theory.specs.Ratio.{Leaving, Entering, ratio_walk, row_entry}
 
 -- what a step exchanges: the variable at a place leaves to the bound on this side, another one enters there, and some

@@ -2,18 +2,12 @@
 use Rattle.std.specs.Prelude.{◌≡◌, Bool, false, Option, None, Some, if◌then◌else◌}
 use Rattle.pami_algebra.specs.Fraction.{Fraction}
 use Rattle.pami_algebra.specs.Operations.{◌-ᶠ◌, ◌<ᶠ◌, is_below}
-use Rattle.pami_theory.specs.Form.{Limits, zero_f}
+use Rattle.pami_theory.specs.declared.words.Side.{Side}
+use Rattle.pami_theory.specs.declared.words.Side.TheVariants.{Above, Below}
+use Rattle.pami_frac.specs.declared.list.Bounds.{Bounds}
+use Rattle.pami_theory.specs.declared.words.Violation.{Violation}
+use Rattle.pami_theory.specs.Form.{zero_f}
 use Rattle.pami_theory.specs.Start.{is_same}
-
--- on which side of its bounds a value lies
-pub data Side : Type 0 where
-  Above : Side
-  Below : Side
-
--- the side, and the distance from the bound that is passed; it is above 0
-pub record Violation : Type 0 where
-  pub side : Side
-  pub amount : Fraction
 
 abbrev pub below_low : Option Fraction → Fraction → Option Violation
 below_low None value = None
@@ -24,11 +18,11 @@ above_high None value otherwise = otherwise
 above_high (Some high) value otherwise = if is_below high value then Some (record { side = Above; amount = value -ᶠ high }) else otherwise
 
 -- how far a value is outside; None within the bounds
-abbrev pub violation : Limits → Fraction → Option Violation
+abbrev pub violation : Bounds → Fraction → Option Violation
 violation l value = above_high l.high value (below_low l.low value)
 
 -- the value is past its bound on this side, by this distance
-abbrev pub IsPast : Side → Limits → Fraction → Fraction → Type 0
+abbrev pub IsPast : Side → Bounds → Fraction → Fraction → Type 0
 IsPast Above l value amount = (high : Fraction) × (l.high ≡ Some high) × (high <ᶠ value) × (amount ≡ value -ᶠ high)
 IsPast Below l value amount = (low : Fraction) × (l.low ≡ Some low) × (value <ᶠ low) × (amount ≡ low -ᶠ value)
 
@@ -37,7 +31,7 @@ abbrev pub value_or_zero : Option Fraction → Fraction
 value_or_zero None = zero_f
 value_or_zero (Some value) = value
 
-abbrev pub passed_bound : Limits → Side → Fraction
+abbrev pub passed_bound : Bounds → Side → Fraction
 passed_bound l Above = value_or_zero l.high
 passed_bound l Below = value_or_zero l.low
 
@@ -48,7 +42,7 @@ width_by (Some low) None = None
 width_by (Some low) (Some high) = if is_below low high then Some (high -ᶠ low) else None
 
 -- the width of a boxed variable; None for any other
-abbrev pub width : Limits → Option Fraction
+abbrev pub width : Bounds → Option Fraction
 width l = width_by l.low l.high
 
 -- both bounds are finite and equal, as a test
@@ -57,5 +51,5 @@ fixed_by None high = false
 fixed_by (Some low) None = false
 fixed_by (Some low) (Some high) = is_same low high
 
-abbrev pub is_fixed : Limits → Bool
+abbrev pub is_fixed : Bounds → Bool
 is_fixed l = fixed_by l.low l.high

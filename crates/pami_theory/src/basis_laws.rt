@@ -4,7 +4,8 @@ ghost use Rattle.std.specs.Prelude.{◌≡◌, ◌↔◌, ◌⊎◌, ℕ, ◌<�
 ghost use Rattle.pami_algebra.specs.Fraction.{Fraction};
 ghost use Rattle.pami_linear.specs.Lists.{get};
 ghost use Rattle.pami_theory.specs.Form.{Form, limits, variables, row_variable, zero_f, IsUncrossed};
-ghost use Rattle.pami_theory.specs.Basis.{Basic, Basis, IsBasis, head_at, stand_at};
+ghost use Rattle.pami_theory.specs.declared.words.Stand.TheVariants.{Basic};
+ghost use Rattle.pami_theory.specs.Basis.{Basis, IsBasis, head_at, stand_at};
 ghost use Rattle.pami_theory.specs.Fresh.{AreValues, AreReducedCosts, IsFixed, IsSignedFor, IsDualFeasible, HasInfeasible, Fresh, IsFresh};
 ghost use Rattle.pami_theory.specs.Certificate.{HoldsOptimal};
 

@@ -7,7 +7,8 @@ ghost use Rattle.pami_theory.specs.Form.{Form, variables, limits, zero_f, IsFeas
 ghost use Rattle.pami_theory.specs.Basis.{Basis, head_at, IsBasis, IsRegularBasis};
 ghost use Rattle.pami_theory.specs.Fresh.{AreReducedCosts, IsDualFeasible, Fresh, value_at_place, IsFresh};
 ghost use Rattle.pami_theory.specs.Start.{starting_basis};
-ghost use Rattle.pami_theory.specs.Violation.{Violation, violation};
+ghost use Rattle.pami_theory.specs.declared.words.Violation.{Violation};
+ghost use Rattle.pami_theory.specs.Violation.{violation};
 ghost use Rattle.pami_theory.specs.Step.{step_at};
 ghost use Rattle.pami_theory.specs.Certificate.{HoldsDualInfeasible};
 ghost use Rattle.pami_theory.specs.Boxes.{boxes_of, CanBeDualFeasible, switched_basis};

@@ -7,7 +7,8 @@ ghost use Rattle.pami_linear.specs.Lists.{get};
 ghost use Rattle.pami_linear.specs.Sums.{dot, unit};
 ghost use Rattle.pami_linear.specs.Systems.{Solves};
 ghost use Rattle.pami_theory.specs.Form.{Form, variables, limits, coefficient, zero_f, IsPoint};
-ghost use Rattle.pami_theory.specs.Basis.{Basic, Basis, head_at, stand_at, StandsAt, IsBasis, basis_column, IsRegularBasis};
+ghost use Rattle.pami_theory.specs.declared.words.Stand.TheVariants.{Basic};
+ghost use Rattle.pami_theory.specs.Basis.{Basis, head_at, stand_at, StandsAt, IsBasis, basis_column, IsRegularBasis};
 ghost use Rattle.pami_theory.specs.Fresh.{AreValues, AreReducedCosts, standing_value, nonbasic_sum, Fresh, row_at, column_at, IsFresh};
 ghost use Rattle.pami_theory.specs.Start.{starting_basis};
 

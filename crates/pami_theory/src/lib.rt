@@ -2,9 +2,10 @@
 //! ratio walk, the step and what it changes, the choice of rows, the boxes of phase one, and what certificates say of a
 //! form.
 //!
-//! Stands on `pami_linear`. Nothing here runs: each function has an empty body, and its contract is a list of
-//! theorems about the definitions of `specs/`, which speak of no program and no width. The layers above may rely on
-//! those definitions and on each theorem, and cite the lemmas of `proofs/` that carry the theorems.
+//! Stands on `pami_linear`, and on `pami_frac` for the plain types of bounds and entries. Nothing here runs but for the
+//! words that programs say too (`Stand`, `Side`, `Violation`): each other function has an empty body, and its contract is a
+//! list of theorems about the definitions of `specs/`, which speak of no program, and of no width but through the view of
+//! those plain types. The layers above may rely on those definitions and on each theorem, and cite the lemmas of `proofs/` that carry the theorems.
 #![tactic(auto)]
 
 pub mod basis_laws;
@@ -18,3 +19,6 @@ pub mod ratio_laws;
 pub mod start_laws;
 pub mod step_laws;
 pub mod update_laws;
+mod words;
+
+pub use words::{Side, Stand, Violation};

@@ -4,9 +4,11 @@ ghost use Rattle.std.specs.Prelude.{◌≡◌, ◌↔◌, ℕ, ◌<◌, Some, Is
 ghost use Rattle.pami_algebra.specs.Fraction.{Fraction};
 ghost use Rattle.pami_algebra.specs.Operations.{◌≤ᶠ◌, ◌<ᶠ◌};
 ghost use Rattle.pami_theory.specs.Form.{Form, limits, cost, variables, row_variable, cost_of, zero_f, IsWithin, IsUncrossed};
-ghost use Rattle.pami_theory.specs.Basis.{Lower, IsBasis};
+ghost use Rattle.pami_theory.specs.declared.words.Stand.TheVariants.{Lower};
+ghost use Rattle.pami_theory.specs.Basis.{IsBasis};
 ghost use Rattle.pami_theory.specs.Fresh.{AreValues, AreReducedCosts, IsFixed, IsSignedFor, IsDualFeasible, IsOutside, IsInfeasible, HasInfeasible};
-ghost use Rattle.pami_theory.specs.Start.{is_negative, is_same, starting_stand, starting_basis, IsStandard};
+ghost use Rattle.pami_frac.specs.Signs.{is_negative};
+ghost use Rattle.pami_theory.specs.Start.{is_same, starting_stand, starting_basis, IsStandard};
 ghost use Rattle.pami_theory.specs.Certificate.{HoldsOptimal, objective_of};
 
 /// The starting basis is one, for each form.

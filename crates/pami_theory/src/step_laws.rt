@@ -5,7 +5,7 @@ ghost use Rattle.pami_linear.specs.Lists.{get};
 ghost use Rattle.pami_theory.specs.Form.{Form, zero_f};
 ghost use Rattle.pami_theory.specs.Basis.{Basis, head_at, IsBasis, IsRegularBasis};
 ghost use Rattle.pami_theory.specs.Fresh.{Fresh, row_at, column_at};
-ghost use Rattle.pami_theory.specs.Violation.{Violation};
+ghost use Rattle.pami_theory.specs.declared.words.Violation.{Violation};
 ghost use Rattle.pami_theory.specs.Ratio.{row_entry, IsEntering, entering_at};
 ghost use Rattle.pami_theory.specs.Step.{Step, leaving_at, step_by, TakesStep, basis_after};
 

@@ -9,9 +9,11 @@ ghost use Rattle.pami_linear.specs.Lists.{get};
 ghost use Rattle.pami_linear.specs.Sums.{dot};
 ghost use Rattle.pami_linear.specs.Systems.{Solves, stepped};
 ghost use Rattle.pami_theory.specs.Form.{Form, variables, limits, zero_f};
-ghost use Rattle.pami_theory.specs.Basis.{Basic, Basis, head_at, stand_at, basis_column};
+ghost use Rattle.pami_theory.specs.declared.words.Stand.TheVariants.{Basic};
+ghost use Rattle.pami_theory.specs.Basis.{Basis, head_at, stand_at, basis_column};
 ghost use Rattle.pami_theory.specs.Fresh.{IsDualFeasible, Fresh, row_at, column_at, value_at_place, IsFresh};
-ghost use Rattle.pami_theory.specs.Violation.{Violation, passed_bound};
+ghost use Rattle.pami_theory.specs.declared.words.Violation.{Violation};
+ghost use Rattle.pami_theory.specs.Violation.{passed_bound};
 ghost use Rattle.pami_theory.specs.Ratio.{row_entry, toward, turned_entry};
 ghost use Rattle.pami_theory.specs.Step.{Step, leaving_at, TakesStep, basis_after, flip_change, flips_change, theta};
 

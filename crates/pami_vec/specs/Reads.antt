@@ -1,5 +1,5 @@
 -- How lists of entries are read side by side, and how one is written.
-use Rattle.std.specs.Prelude.{ℕ, List, [], ◌∷◌, ◌++◌, Option, None, Some, Bool, cond, ltb}
+use Rattle.std.specs.Prelude.{ℕ, List, [], ◌∷◌, ◌++◌, Option, None, Some, cond, ltb}
 use lib.IntN.{pos}
 use lib.Dec.{eqb}
 use Rattle.pami_algebra.specs.Fraction.{Fraction}

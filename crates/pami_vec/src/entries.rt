@@ -1,9 +1,22 @@
 //! Entries read side by side, and written one by one.
 
 ghost use Rattle.std.specs.Prelude.{◌≡◌, ◌≤◌, length, drop, IfOk};
+ghost use Rattle.pami_script.specs.Dense.{at};
 ghost use Rattle.pami_vec.specs.Reads.{first_place, lesser, first_value, rest_after, with_entry};
 
 use pami_frac::{Entry, Frac, OutOfMemory};
+
+/// The value at a place, 0 where there is no entry.
+pub fn entry_at(entries: &[Entry], place: u32) -> Frac
+    ensures { result ≡ at entries.now place }
+{
+    for entry in entries {
+        if entry.place == place {
+            return entry.value;
+        }
+    }
+    Frac::zero()
+}
 
 /// The place of the first entry from index `from` on.
 pub(crate) fn place_from(entries: &[Entry], from: usize) -> Option<u32>

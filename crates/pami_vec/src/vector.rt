@@ -1,12 +1,13 @@
 //! The sparse vector and its operations.
 
-ghost use Rattle.std.specs.Prelude.{◌≡◌, ◌<◌, length, IfOk, List};
-ghost use Rattle.pami_script.specs.Dense.{dense, get, Rising};
-ghost use Rattle.pami_script.specs.Follows.{FollowsScript};
+ghost use Rattle.std.specs.Prelude.{◌≡◌, ◌<◌, ◌^◌, length, IfOk, List};
+ghost use Rattle.pami_linear.specs.Lists.{get};
+ghost use Rattle.pami_script.specs.Dense.{dense, Rising};
+ghost use Rattle.pami_frac.specs.Answers.{FollowsBy};
 ghost use Rattle.pami_vec.specs.Entries.{NoZeros, AreEntriesOf};
 ghost use Rattle.pami_vec.specs.Scripts.{dot_script, take_times_script, scale_script};
 
-use crate::entries::{index_after, lesser_place, place_from, put, value_from};
+use crate::entries::{entry_at, index_after, lesser_place, place_from, put, value_from};
 use pami_frac::{Entry, Fault, Frac, OutOfMemory, Refused};
 use std::alloc::Global;
 use std::marker::Model;
@@ -83,13 +84,48 @@ impl SpVec {
         requires { place < length self.now }
         ensures { result ≡ get self.now place }
     {
+        entry_at(self.entries(), place)
+    }
+
+    /// All members, by place, at a cost of the entries and the length.
+    ///
+    /// # Errors
+    ///
+    /// `OutOfMemory` alone.
+    pub fn to_dense(&self, alloc: Global) -> Result<Vec<Frac>, OutOfMemory>
+        ensures { IfOk result (λ members. members.items ≡ self.now) }
+    {
         let entries = self.entries();
-        for entry in entries {
-            if entry.place == place {
-                return entry.value;
+        let mut members = Vec::new(alloc);
+        let mut next = 0;
+        for place in 0..self.len() {
+            if next < entries.len() && entries[next].place == place {
+                members.push(entries[next].value)?;
+                next += 1;
+            } else {
+                members.push(Frac::zero())?;
             }
         }
-        Frac::zero()
+        Ok(members)
+    }
+
+    /// The vector of these members, by place.
+    ///
+    /// # Errors
+    ///
+    /// `OutOfMemory` alone.
+    pub fn from_dense(alloc: Global, members: &[Frac]) -> Result<SpVec, OutOfMemory>
+        requires { length members.now < 2 ^ 32 }
+        ensures { IfOk result (λ v. v ≡ members.now) }
+    {
+        let mut entries = Vec::new(alloc);
+        for (k, value) in members.iter().enumerate() {
+            entries.push(Entry {
+                place: k as u32,
+                value: *value,
+            })?;
+        }
+        SpVec::from_entries(alloc, members.len() as u32, &entries)
     }
 
     /// The sum of the products of members at one place: 0, and then each product added, places ascending, with
@@ -115,14 +151,8 @@ impl SpVec {
             } else if f.place < e.place {
                 j += 1;
             } else {
-                let product = match e.value.mul(f.value) {
-                    Ok(product) => product,
-                    Err(refused) => return Err(refused),
-                };
-                total = match total.add(product) {
-                    Ok(sum) => sum,
-                    Err(refused) => return Err(refused),
-                };
+                let product = e.value.mul(f.value)?;
+                total = total.add(product)?;
                 i += 1;
                 j += 1;
             }
@@ -138,7 +168,7 @@ impl SpVec {
     /// where memory runs out.
     pub fn take_times(&self, alloc: Global, k: Frac, other: &SpVec) -> Result<SpVec, Fault<Refused>>
         requires { length self.now ≡ length other.now }
-        ensures { FollowsScript (take_times_script self.now k other.now) result }
+        ensures { FollowsBy (λ v. v) (take_times_script self.now k other.now) result }
     {
         let left = self.entries();
         let right = other.entries();
@@ -146,18 +176,9 @@ impl SpVec {
         let mut i = 0;
         let mut j = 0;
         while let Some(place) = lesser_place(place_from(left, i), place_from(right, j)) {
-            let product = match k.mul(value_from(right, j, place)) {
-                Ok(product) => product,
-                Err(refused) => return Err(Fault::Named(refused)),
-            };
-            let value = match value_from(left, i, place).sub(product) {
-                Ok(value) => value,
-                Err(refused) => return Err(Fault::Named(refused)),
-            };
-            match put(&mut out, place, value) {
-                Ok(()) => {}
-                Err(_) => return Err(Fault::OutOfMemory),
-            }
+            let product = k.mul(value_from(right, j, place))?;
+            let value = value_from(left, i, place).sub(product)?;
+            put(&mut out, place, value)?;
             i = index_after(left, i, place);
             j = index_after(right, j, place);
         }
@@ -170,19 +191,13 @@ impl SpVec {
     ///
     /// `Named` exactly where a product doesn't fit: the first such. `OutOfMemory` where memory runs out.
     pub fn scale(&self, alloc: Global, k: Frac) -> Result<SpVec, Fault<Refused>>
-        ensures { FollowsScript (scale_script k self.now) result }
+        ensures { FollowsBy (λ v. v) (scale_script k self.now) result }
     {
         let entries = self.entries();
         let mut out = Vec::new(alloc);
         for entry in entries {
-            let product = match k.mul(entry.value) {
-                Ok(product) => product,
-                Err(refused) => return Err(Fault::Named(refused)),
-            };
-            match put(&mut out, entry.place, product) {
-                Ok(()) => {}
-                Err(_) => return Err(Fault::OutOfMemory),
-            }
+            let product = k.mul(entry.value)?;
+            put(&mut out, entry.place, product)?;
         }
         Ok(SpVec::of(self.len(), out))
     }

@@ -27,7 +27,7 @@ loop-entry-preserved c =
     let all = candidates_script t c.args.side c.args.alpha.now in
     let next = candidates_script t c.args.side (drop (c.loop-entry.entry-index + 1) c.args.alpha.now) in
     let goes = entry_goes t c.args.side c.args.alpha.now c.loop-entry.entry-index c.entry-item.result c.in-Ok.found c.loop-entry.out.items all c.loop-entry.invariant c.loop-entry-test.true c.entry-item.is
-    (c.in-Ok.ensures ∙ ap (candidate_script t c.entry-item.result.place) c.turned-a.ensures) in
+    (c.in-Ok.ensures ∙ ap (candidate_script t c.entry-item.result.place) c.toward-a.ensures) in
     elim c.match-found.branch [
       | in-Some+in_ok-push w ↦ subst (λ (cs : List Candidate). all ≡ behind cs next) (sym (ap (λ o. o.items) w.out-is ∙ w.in_ok-push.ensures.items)) (goes ∙ ap (λ f. behind (gathered f c.loop-entry.out.items) next) w.in-Some.is)
       | in_default w ↦ subst (λ (cs : List Candidate). all ≡ behind cs next) (sym (ap (λ o. o.items) w.out-is ∙ sym (none_gathered c.in-Ok.found c.loop-entry.out.items w.in_default.not-Some))) goes

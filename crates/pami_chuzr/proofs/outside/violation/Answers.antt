@@ -1,6 +1,5 @@
 use Rattle.std.proofs.Common.{◌≡◌, sym, ◌∙◌}
 use Rattle.pami_method.specs.Scripts.{violation_script, low_script}
-use Rattle.pami_chuzr.specs.Violation.{limits_by}
 use Rattle.pami_chuzr.proofs.Exact.{answer_exact, above_script, below_script, not_above_script, unbounded_script, below_within}
 use Rattle.pami_chuzr.proofs.outside.violation.Goals as goal
 use Rattle.pami_chuzr.proofs.outside.violation.Goals.{in-Some+else-is_below, in_default}
@@ -16,7 +15,7 @@ returns-then-is_below-2-clause-exact c =
     let b = c.args.bounds.now in
     let v = c.args.value.now in
     let r = c.by_difference-then-is_below-2.result in
-    let s : violation_script (limits_by b) v ≡ low_script b.low v = elim c.match-bounds.branch [
+    let s : violation_script b v ≡ low_script b.low v = elim c.match-bounds.branch [
       | in-Some+else-is_below w ↦ not_above_script b v w.in-Some.high w.in-Some.is (sym w.is_below.ensures ∙ w.if-is_below.false)
       | in_default w ↦ unbounded_script b v w.in_default.not-Some
     ] in

@@ -1,9 +1,10 @@
 use Rattle.std.proofs.Common.{◌≡◌, ◌++◌, take}
 use Rattle.std.specs.List.{flat_map}
 use Rattle.pami_model.specs.Contents.{contents}
-use Rattle.pami_text.specs.Line.{text}
+use Rattle.pami_lines.specs.Line.{text}
 use Rattle.pami_log.specs.declared.event.Event.{Event}
-use Rattle.pami_log.specs.Events.{names_of, counts_of, event_lines}
+use Rattle.pami_model_form.specs.Named.{names_of, counts_of}
+use Rattle.pami_log.specs.Events.{event_lines}
 use Rattle.pami_cli.proofs.print.push_events.Given as goal
 
 abbrev pub invariant-loop-event : goal.invariant-loop-event

@@ -3,8 +3,8 @@ use Rattle.std.proofs.lemmas.Result.{on_ok_weaker}
 use Rattle.pami_model.specs.Contents.{contents}
 use Rattle.pami_theory.specs.Basis.{stand_at}
 use Rattle.pami_state.specs.State.{basis_of}
-use Rattle.pami_text.specs.Answer.{basis_line}
-use Rattle.pami_log.specs.Events.{counts_of}
+use Rattle.pami_lines.specs.Letters.{basis_line}
+use Rattle.pami_model_form.specs.Named.{counts_of}
 use Rattle.pami_cli.proofs.Lines.{limit_joined, basis_printed}
 use Rattle.pami_cli.proofs.print.push_limit.Goals as goal
 

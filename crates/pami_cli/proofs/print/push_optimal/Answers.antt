@@ -4,11 +4,10 @@ use Rattle.pami_linear.specs.Lists.{get}
 use Rattle.pami_model.specs.Contents.{contents}
 use Rattle.pami_theory.specs.Basis.{stand_at}
 use Rattle.pami_state.specs.State.{basis_of}
-use Rattle.pami_text.specs.Line.{text}
-use Rattle.pami_text.specs.Answer.{optimal_lines, basis_line}
-use Rattle.pami_text.specs.Record.{certificate_of}
-use Rattle.pami_log.specs.Events.{counts_of}
-use Rattle.pami_cli.specs.Text.{named_of}
+use Rattle.pami_lines.specs.Line.{text}
+use Rattle.pami_lines.specs.Letters.{basis_line}
+use Rattle.pami_lines.specs.Certificate.{optimal_lines, certificate_of}
+use Rattle.pami_model_form.specs.Named.{counts_of, named_of}
 use Rattle.pami_cli.proofs.Lines.{optimal_joined, basis_printed}
 use Rattle.pami_cli.proofs.print.push_optimal.Goals as goal
 

@@ -1,6 +1,6 @@
-use Rattle.std.proofs.Common.{refl, sym, ap, ◌∙◌, subst}
+use Rattle.std.proofs.Common.{arith, refl, sym, ap, ◌∙◌, subst}
 use Rattle.pami_model.specs.Contents.{contents}
-use Rattle.pami_form.specs.Model.{model_form}
+use Rattle.pami_model_form.specs.ModelForm.{model_form}
 use Rattle.pami_method.specs.Walk.{State}
 use Rattle.pami_state.specs.Columns.{form_by}
 use Rattle.pami_method.specs.Phases.{starting_state}
@@ -8,11 +8,14 @@ use Rattle.pami_major.specs.Walks.{IsWalked}
 use Rattle.pami_cli.specs.Answer.{options_of}
 use Rattle.pami_cli.specs.Solved.{IsReadable}
 use Rattle.pami_cli.proofs.Begun.{start_ready, start_state, last_readable, end_row}
-use Rattle.pami_cli.proofs.Ended.{walked_model}
+use Rattle.pami_cli.proofs.WalkEnds.{walked_model}
 use Rattle.pami_cli.proofs.solve.walk_answer.Goals as goal
 
+pub drive-requires-clause-options : goal.drive-requires-clause-options
+drive-requires-clause-options c = record { some_row = omega arith; batch = omega arith; refactor = omega arith; limit = c.requires.limit }
+
 pub drive-requires-clause-one_row : goal.drive-requires-clause-one_row
-drive-requires-clause-one_row c = record { batch = refl; refactor = refl; limit = c.requires.limit }
+drive-requires-clause-one_row c = record { batch = refl; refactor = refl }
 
 pub drive-requires-clause-ready : goal.drive-requires-clause-ready
 drive-requires-clause-ready c = start_ready c.args.form.now c.args.limit (model_form (contents c.args.model.now)) c.args.state c.requires.form c.requires.start c.requires.feasible

@@ -28,7 +28,7 @@ loop-entry-preserved c =
     let ws = c.loop-entry.weights in
     let e = c.entry-item.result in
     let p = c.args.place in
-    let a = c.value_at-alpha_p.result in
+    let a = c.entry_at-alpha_p.result in
     let wp = slice_index_or c.args.weights.now p 0 in
     let v = c.if-entry-place.weights in
     let inside : e.place < length ws = omega (arith, c.loop-entry.invariant.same_length, place_below es 0 (length c.args.weights.now) c.loop-entry.entry-index e c.requires.rising c.loop-entry-test.true c.entry-item.is) in
@@ -47,9 +47,9 @@ returns-clause-value c =
     let es = c.args.alpha.now in
     let ws = c.args.weights.now in
     let p = c.args.place in
-    let a = c.value_at-alpha_p.result in
+    let a = c.entry_at-alpha_p.result in
     all_taken p a (slice_index_or ws p 0) es c.loop-entry.weights ws c.loop-entry.entry-index c.loop-entry-test.false c.loop-entry.invariant.rest
-    ∙ ap (λ x. reweighed p x (slice_index_or ws p 0) es ws) c.value_at-alpha_p.ensures
+    ∙ ap (λ x. reweighed p x (slice_index_or ws p 0) es ws) c.entry_at-alpha_p.ensures
     ∙ ap (λ x. reweighed p (at es p) x es ws) (get_or_default ws p 0 1 (place_within es 0 (length ws) p c.requires.rising c.requires.pivot))
     ∙ reweighed_is p es ws c.requires.rising c.requires.pivot
 
@@ -58,8 +58,8 @@ returns-clause-range c =
     let es = c.args.alpha.now in
     let ws = c.args.weights.now in
     let p = c.args.place in
-    let a = c.value_at-alpha_p.result in
+    let a = c.entry_at-alpha_p.result in
     all_in_range p es ws c.loop-entry.weights c.requires.rising c.requires.pivot
     (all_taken p a (slice_index_or ws p 0) es c.loop-entry.weights ws c.loop-entry.entry-index c.loop-entry-test.false c.loop-entry.invariant.rest
-    ∙ ap (λ x. reweighed p x (slice_index_or ws p 0) es ws) c.value_at-alpha_p.ensures
+    ∙ ap (λ x. reweighed p x (slice_index_or ws p 0) es ws) c.entry_at-alpha_p.ensures
     ∙ ap (λ x. reweighed p (at es p) x es ws) (get_or_default ws p 0 1 (place_within es 0 (length ws) p c.requires.rising c.requires.pivot)))

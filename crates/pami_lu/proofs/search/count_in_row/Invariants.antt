@@ -1,7 +1,7 @@
 use Rattle.std.proofs.Common.{◌≡◌, ◌≤◌, cond, not, false}
 use Rattle.pami_linear.specs.Active.{count}
 use Rattle.pami_algebra.specs.Operations.{is_zero}
-use Rattle.pami_script.specs.Dense.{get}
+use Rattle.pami_linear.specs.Lists.{get}
 use Rattle.pami_factoring.specs.Factor.{flag}
 use Rattle.pami_lu.proofs.search.count_in_row.Given as goal
 

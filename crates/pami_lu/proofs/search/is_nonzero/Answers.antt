@@ -1,6 +1,5 @@
 use Rattle.std.proofs.Common.{not, ap, ◌∙◌}
-use Rattle.pami_factoring.proofs.Zeros.{zero_tests_agree}
 use Rattle.pami_lu.proofs.search.is_nonzero.Goals as goal
 
 pub returns : goal.returns
-returns c = ap not (c.is_zero.ensures.test ∙ zero_tests_agree c.args.x.now)
+returns c = ap not c.is_zero.ensures.test

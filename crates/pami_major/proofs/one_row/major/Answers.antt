@@ -5,7 +5,7 @@ use Rattle.pami_method.specs.Walk.{eliminates_anew}
 use Rattle.pami_frac.specs.declared.list.Bounds.{Bounds}
 use Rattle.pami_frac.specs.declared.arithmetic.Refused.{Refused}
 use Rattle.pami_frac.specs.declared.fault.Fault.{Fault}
-use Rattle.pami_log.specs.declared.place.Spot.TheVariants as spots
+use Rattle.pami_method.specs.declared.words.Spot.TheVariants as spots
 use Rattle.pami_log.specs.declared.event.Event.TheVariants as told
 use Rattle.pami_log.specs.declared.event.Move.TheVariants as moves
 use Rattle.pami_major.specs.Leaving.{bounds_at_places, FollowsLeaving}
@@ -14,7 +14,7 @@ use Rattle.pami_major.specs.declared.one_row.MajorEnd.{MajorEnd}
 use Rattle.pami_major.specs.declared.one_row.MajorEnd.TheVariants as majors
 use Rattle.pami_major.specs.Tried.{leaving_at}
 use Rattle.pami_major.specs.Majors.{IsTaken}
-use Rattle.pami_major.specs.Walks.{options_by, mode_by, IsRefused, Majored, walk_state}
+use Rattle.pami_major.specs.Walks.{IsRefused, Majored, walk_state}
 use Rattle.pami_major.proofs.Ready.{lists_of, regular_of, rising_of}
 use Rattle.pami_major.proofs.Underway.{some_outside, values_at_places, known_at_places}
 use Rattle.pami_major.proofs.Majored.{sound_row, movable_row, some_row, refused_choice, refused_row, stuck_row, moved_row}
@@ -25,7 +25,7 @@ pub leaving_row-requires-clause-few : goal.leaving_row-requires-clause-few
 leaving_row-requires-clause-few g c =
     let form = c.args.form.now in
     let st = c.args.state in
-    let a = lists_of form c.args.options.now.limit st form.kept c.requires.ready c.requires.below (omega (arith, c.requires.one_row.limit)) in
+    let a = lists_of form c.args.options.now.limit st form.kept c.requires.ready c.requires.below (omega (arith, c.requires.options.limit)) in
     omega (arith, ap length c.as_slice-3.ensures, a.values, a.rows)
 
 pub leaving_row-requires-clause-known : goal.leaving_row-requires-clause-known
@@ -53,7 +53,7 @@ returns-in-Err-Named-clause-majored g c =
     let st = c.args.state in
     λ h anew. (
       refl,
-      subst (λ (r : Refused). IsRefused form c.args.options.now c.args.number (mode_by c.args.mode) (walk_state st h) (record { task = spots.Choose; refused = r })) (sym c.in-Err-Named.refused-is)
+      subst (λ (r : Refused). IsRefused form c.args.options.now c.args.number c.args.mode (walk_state st h) (record { task = spots.Choose; refused = r })) (sym c.in-Err-Named.refused-is)
           (refused_choice form c.args.options.now st h c.args.mode c.args.number form.kept c.requires.one_row c.requires.ready c.requires.below anew
           (λ s fresh. some_outside form c.args.options.now.limit st s c.requires.ready fresh c.requires.due)
           c.in-Err-Named.refused
@@ -64,7 +64,8 @@ returns-in-Err-Named-clause-majored g c =
 
 pub try_row-requires-clause-lists : goal.try_row-requires-clause-lists
 try_row-requires-clause-lists g c =
-    lists_of c.args.form.now c.args.options.now.limit c.args.state c.args.form.now.kept c.requires.ready c.requires.below (omega (arith, c.requires.one_row.limit))
+    lists_of c.args.form.now c.args.options.now.limit c.args.state c.args.form.now.kept c.requires.ready c.requires.below
+    (omega (arith, c.requires.options.limit))
 
 pub try_row-requires-clause-place : goal.try_row-requires-clause-place
 try_row-requires-clause-place g c =
@@ -86,7 +87,7 @@ pub try_row-requires-clause-sound : goal.try_row-requires-clause-sound
 try_row-requires-clause-sound g c =
     let form = c.args.form.now in
     let st = c.args.state in
-    sound_row form c.args.options.now st c.in-Ok-Some.row form.kept c.requires.one_row c.requires.ready c.requires.below
+    sound_row form c.args.options.now st c.in-Ok-Some.row form.kept c.requires.options c.requires.one_row c.requires.ready c.requires.below
     (subst (λ (x : Option LeavingRow). FollowsLeaving (bounds_at_places form.bounds st.head) st.values st.weights (Ok x)) c.in-Ok-Some.field-0-is
     (leaves_lent form.bounds c.as_slice.result.now st.head c.as_slice-2.result.now st.values c.as_slice-3.result.now st.weights c.as_slice-4.result.now (Ok c.in-Ok-Some.field-0)
     c.as_slice.ensures c.as_slice-2.ensures c.as_slice-3.ensures c.as_slice-4.ensures c.in-Ok-Some.ensures))
@@ -95,7 +96,7 @@ pub take_step-requires : goal.take_step-requires
 take_step-requires g c =
     let form = c.args.form.now in
     let st = c.args.state in
-    movable_row form c.args.options.now st c.in-Ok-Some.row form.kept c.requires.one_row c.requires.ready c.requires.below
+    movable_row form c.args.options.now st c.in-Ok-Some.row form.kept c.requires.options c.requires.one_row c.requires.ready c.requires.below
     (subst (λ (x : Option LeavingRow). FollowsLeaving (bounds_at_places form.bounds st.head) st.values st.weights (Ok x)) c.in-Ok-Some.field-0-is
     (leaves_lent form.bounds c.as_slice.result.now st.head c.as_slice-2.result.now st.values c.as_slice-3.result.now st.weights c.as_slice-4.result.now (Ok c.in-Ok-Some.field-0)
     c.as_slice.ensures c.as_slice-2.ensures c.as_slice-3.ensures c.as_slice-4.ensures c.in-Ok-Some.ensures))
@@ -116,10 +117,11 @@ returns-in-Ok-Moves-clause-majored g c =
     let form = c.args.form.now in
     let st = c.args.state in
     if_ok (IsTaken st c.args.mode c.args.number c.in-Ok-Some.row c.in-Ok-Moves.step)
-    (λ end. (h : Option History) → eliminates_anew (options_by c.args.options.now) (mode_by c.args.mode) h ≡ true → Majored form c.args.options.now c.args.number c.args.mode st h end)
+    (λ end. (h : Option History) → eliminates_anew c.args.options.now c.args.mode h ≡ true → Majored form c.args.options.now c.args.number c.args.mode st h end)
     c.take_step.result c.take_step.ensures
     (λ end taken h anew.
-    moved_row form c.args.options.now st h c.args.mode c.args.number c.in-Ok-Some.row form.kept c.requires.one_row c.requires.ready c.requires.below anew
+    moved_row form c.args.options.now st h c.args.mode c.args.number c.in-Ok-Some.row
+    form.kept c.requires.options c.requires.one_row c.requires.ready c.requires.below anew
     (subst (λ (x : Option LeavingRow). FollowsLeaving (bounds_at_places form.bounds st.head) st.values st.weights (Ok x)) c.in-Ok-Some.field-0-is
     (leaves_lent form.bounds c.as_slice.result.now st.head c.as_slice-2.result.now st.values c.as_slice-3.result.now st.weights c.as_slice-4.result.now (Ok c.in-Ok-Some.field-0)
     c.as_slice.ensures c.as_slice-2.ensures c.as_slice-3.ensures c.as_slice-4.ensures c.in-Ok-Some.ensures))
@@ -132,11 +134,12 @@ returns-in-Ok-Stuck-clause-majored g c =
     let row = c.in-Ok-Some.row in
     let end : MajorEnd = majors.Stuck st (told.Major c.args.number c.args.mode (row.place ∷ []) (moves.Stuck row.place (leaving_at st row) row.violation.side ∷ [])) row.place row.violation.side c.in-Ok-Stuck.rho in
     if_ok (λ (x : MajorEnd). x ≡ end)
-    (λ end. (h : Option History) → eliminates_anew (options_by c.args.options.now) (mode_by c.args.mode) h ≡ true → Majored form c.args.options.now c.args.number c.args.mode st h end)
+    (λ end. (h : Option History) → eliminates_anew c.args.options.now c.args.mode h ≡ true → Majored form c.args.options.now c.args.number c.args.mode st h end)
     c.stay.result c.stay.ensures
     (λ x is h anew.
     subst (Majored form c.args.options.now c.args.number c.args.mode st h) (sym is)
-    (stuck_row form c.args.options.now st h c.args.mode c.args.number c.in-Ok-Some.row form.kept c.requires.one_row c.requires.ready c.requires.below anew
+    (stuck_row form c.args.options.now st h c.args.mode c.args.number c.in-Ok-Some.row
+    form.kept c.requires.options c.requires.one_row c.requires.ready c.requires.below anew
     (subst (λ (x : Option LeavingRow). FollowsLeaving (bounds_at_places form.bounds st.head) st.values st.weights (Ok x)) c.in-Ok-Some.field-0-is
     (leaves_lent form.bounds c.as_slice.result.now st.head c.as_slice-2.result.now st.values c.as_slice-3.result.now st.weights c.as_slice-4.result.now (Ok c.in-Ok-Some.field-0)
     c.as_slice.ensures c.as_slice-2.ensures c.as_slice-3.ensures c.as_slice-4.ensures c.in-Ok-Some.ensures))
@@ -148,8 +151,9 @@ returns-in-Err-Named-try_row-clause-majored g c =
     let st = c.args.state in
     λ h anew. (
       refl,
-      subst (IsRefused form c.args.options.now c.args.number (mode_by c.args.mode) (walk_state st h)) (sym c.in-Err-Named-try_row.place-is)
-          (refused_row form c.args.options.now st h c.args.mode c.args.number c.in-Ok-Some.row form.kept c.requires.one_row c.requires.ready c.requires.below anew
+      subst (IsRefused form c.args.options.now c.args.number c.args.mode (walk_state st h)) (sym c.in-Err-Named-try_row.place-is)
+          (refused_row form c.args.options.now st h c.args.mode c.args.number c.in-Ok-Some.row
+          form.kept c.requires.options c.requires.one_row c.requires.ready c.requires.below anew
           (subst (λ (x : Option LeavingRow). FollowsLeaving (bounds_at_places form.bounds st.head) st.values st.weights (Ok x)) c.in-Ok-Some.field-0-is
           (leaves_lent form.bounds c.as_slice.result.now st.head c.as_slice-2.result.now st.values c.as_slice-3.result.now st.weights c.as_slice-4.result.now (Ok c.in-Ok-Some.field-0)
           c.as_slice.ensures c.as_slice-2.ensures c.as_slice-3.ensures c.as_slice-4.ensures c.in-Ok-Some.ensures))

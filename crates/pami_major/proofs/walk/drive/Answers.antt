@@ -1,6 +1,6 @@
 use Rattle.std.proofs.Common.{◌≡◌, ◌<◌, ◌≤◌, ◌+◌, ◌*◌, List, None, sym, subst, arith}
 use Rattle.pami_log.specs.declared.event.Event.{Event}
-use Rattle.pami_log.specs.declared.event.Mode.TheVariants as modes
+use Rattle.pami_method.specs.declared.words.Mode.TheVariants as modes
 use Rattle.pami_major.specs.Walks.{walk_state, IsUnderway, IsWalkedWhole, FollowsTurn, majors_left}
 use Rattle.pami_major.specs.declared.walk.Turned.{Turned}
 use Rattle.pami_major.proofs.Underway.{begins}

@@ -1,9 +1,9 @@
-use Rattle.std.proofs.Common.{◌<◌, length, sym, ap, ◌∙◌}
-use Rattle.pami_script.specs.Dense.{get}
-use Rattle.pami_script.specs.Script.{each_entry}
-use Rattle.pami_script.proofs.Loops.{add_done, add_stops_first, add_stops_last, entry_goes, entry_stops}
+use Rattle.std.proofs.Common.{◌<◌, length, sym, ap, ◌∙◌, Err}
+use Rattle.std.proofs.lemmas.Result.{err_from_is_err_and}
+use Rattle.pami_script.specs.Script.{add_product, each_entry}
+use Rattle.pami_script.proofs.Loops.{entry_goes, entry_stops, get_is}
 use Rattle.pami_vec.specs.Scripts.{dot_script}
-use Rattle.pami_price.proofs.Products.{product_step, dot_by_entries, place_fits, product_read}
+use Rattle.pami_price.proofs.Products.{product_step, dot_by_entries, place_fits}
 use Rattle.pami_price.proofs.price.entry_of.Goals as goal
 
 pub loop-entry-init : goal.loop-entry-init
@@ -21,25 +21,17 @@ loop-entry-preserved c =
     let i = c.loop-entry.entry-index in
     let e = c.entry-item.result in
     let fits : e.place < length rho = place_fits rho c.args.column.now es i e c.requires c.entries-entries.ensures c.loop-entry-test.true c.entry-item.is in
-    entry_goes (dot_script rho c.args.column.now) es i e (product_step rho) c.loop-entry.total c.in-Ok-add.sum c.loop-entry.invariant c.loop-entry-test.true c.entry-item.is
-    (add_done c.loop-entry.total (get rho e.place) e.value c.in-Ok.product c.in-Ok-add.sum (product_read rho e c.index-rho-entry.result _ fits c.index-rho-entry.is c.in-Ok.ensures) c.in-Ok-add.ensures)
+    entry_goes (dot_script rho c.args.column.now) es i e (product_step rho) c.loop-entry.total c.in_ok-total.total c.loop-entry.invariant c.loop-entry-test.true c.entry-item.is
+    (sym (c.in_ok-total.ensures ∙ ap (λ z. add_product c.loop-entry.total z e.value) (get_is rho e.place c.index-rho-entry.result fits c.index-rho-entry.is)))
 
-pub returns-in-Err : goal.returns-in-Err
-returns-in-Err c =
+pub returns-in_err-total : goal.returns-in_err-total
+returns-in_err-total c =
+    let p = err_from_is_err_and c.from_residual.result c.from_residual.ensures.1 in
     let rho = c.args.rho.now in
     let es = c.entries-entries.result.now in
     let i = c.loop-entry.entry-index in
     let e = c.entry-item.result in
     let fits : e.place < length rho = place_fits rho c.args.column.now es i e c.requires c.entries-entries.ensures c.loop-entry-test.true c.entry-item.is in
-    entry_stops (dot_script rho c.args.column.now) es i e (product_step rho) c.loop-entry.total c.in-Err.refused c.loop-entry.invariant c.loop-entry-test.true c.entry-item.is
-    (add_stops_first c.loop-entry.total (get rho e.place) e.value c.in-Err.refused (product_read rho e c.index-rho-entry.result _ fits c.index-rho-entry.is c.in-Err.ensures))
-
-pub returns-in-Err-add : goal.returns-in-Err-add
-returns-in-Err-add c =
-    let rho = c.args.rho.now in
-    let es = c.entries-entries.result.now in
-    let i = c.loop-entry.entry-index in
-    let e = c.entry-item.result in
-    let fits : e.place < length rho = place_fits rho c.args.column.now es i e c.requires c.entries-entries.ensures c.loop-entry-test.true c.entry-item.is in
-    entry_stops (dot_script rho c.args.column.now) es i e (product_step rho) c.loop-entry.total c.in-Err-add.refused c.loop-entry.invariant c.loop-entry-test.true c.entry-item.is
-    (add_stops_last c.loop-entry.total (get rho e.place) e.value c.in-Ok.product c.in-Err-add.refused (product_read rho e c.index-rho-entry.result _ fits c.index-rho-entry.is c.in-Ok.ensures) c.in-Err-add.ensures)
+    p.1 ∙ ap Err p.2
+    ∙ entry_stops (dot_script rho c.args.column.now) es i e (product_step rho) c.loop-entry.total c.in_err-total.field-0.0 c.loop-entry.invariant c.loop-entry-test.true c.entry-item.is
+    (sym (c.in_err-total.ensures ∙ ap (λ z. add_product c.loop-entry.total z e.value) (get_is rho e.place c.index-rho-entry.result fits c.index-rho-entry.is)))

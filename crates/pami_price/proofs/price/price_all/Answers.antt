@@ -1,21 +1,15 @@
-use Rattle.std.proofs.Common.{◌∙◌, ◌≡◌, List, sym, subst, Err, Ok}
-use Rattle.pami_algebra.specs.Fraction.{Fraction}
-use Rattle.pami_price.specs.Slices.{row_script, slice_script}
-use Rattle.pami_price.specs.Follow.{FollowsEntries, FollowsOnto, onto}
-use Rattle.pami_price.proofs.Walked.{slice_goes, fault_follows}
+use Rattle.std.proofs.Common.{◌≡◌, List}
+use Rattle.std.specs.Global.{Vec}
+use Rattle.pami_frac.specs.declared.list.Entry.{Entry}
+use Rattle.pami_frac.proofs.Answers.{value_so}
+use Rattle.pami_theory.specs.Ratio.{row_entry}
+use Rattle.pami_price.specs.Slices.{row_script}
+use Rattle.pami_price.specs.Agreement.{nonzero_entries, all_nonbasic}
+use Rattle.pami_price.proofs.Priced.{row_value}
 use Rattle.pami_price.proofs.price.price_all.Goals as goal
 
-pub returns-in-Err : goal.returns-in-Err
-returns-in-Err c =
-    subst (λ e. FollowsEntries (row_script c.args.columns.now c.args.stands.now c.args.rho.now) (Err e)) (sym c.in_slice.ensures)
-    (fault_follows c.args.columns.now c.args.stands.now c.args.rho.now c.loop-slice.slice c.loop-slice.out.items c.price_onto.new.out.items c.in-Err.fault (row_script c.args.columns.now c.args.stands.now c.args.rho.now)
-    c.loop-slice.invariant c.loop-slice-test.true
-    (subst (λ (rho : List Fraction). FollowsOnto {A = Unit {0}} (slice_script c.args.columns.now c.args.stands.now rho c.loop-slice.slice) c.loop-slice.out.items c.price_onto.new.out.items (Err c.in-Err.fault))
-    (c.as_slice.ensures.value ∙ c.in_ok-by_row.ensures) c.in-Err.ensures))
-
-pub loop-slice-preserved : goal.loop-slice-preserved
-loop-slice-preserved c =
-    slice_goes c.args.columns.now c.args.stands.now c.args.rho.now c.loop-slice.slice c.loop-slice.out.items c.price_onto.new.out.items (row_script c.args.columns.now c.args.stands.now c.args.rho.now)
-    c.loop-slice.invariant c.loop-slice-test.true
-    (subst (λ (rho : List Fraction). onto c.loop-slice.out.items (slice_script c.args.columns.now c.args.stands.now rho c.loop-slice.slice) ≡ Ok c.price_onto.new.out.items)
-    (c.as_slice.ensures.value ∙ c.in_ok-by_row.ensures) c.in-Ok.ensures)
+pub returns-clause-entries : goal.returns-clause-entries
+returns-clause-entries c = λ f b listed rows.
+    value_so (λ (es : Vec Entry). es.items) (row_script c.args.columns.now c.args.stands.now c.args.rho.now) c.all_entries.result
+    (λ (es : List Entry). es ≡ nonzero_entries (row_entry f c.args.rho.now) (all_nonbasic f b)) c.all_entries.ensures
+    (λ es e. row_value f b c.args.columns.now c.args.stands.now c.args.rho.now es listed rows e)

@@ -1,5 +1,5 @@
 use Rattle.std.proofs.Common.{◌≡◌, ◌-◌, length}
-use Rattle.pami_script.specs.Dense.{get}
+use Rattle.pami_linear.specs.Lists.{get}
 use Rattle.pami_script.specs.Script.{add_product, add_dot, each}
 use Rattle.pami_script.proofs.plain.add_products.Given as goal
 

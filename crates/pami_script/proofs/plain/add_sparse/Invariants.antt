@@ -1,5 +1,5 @@
 use Rattle.std.proofs.Common.{◌≡◌, drop}
-use Rattle.pami_script.specs.Dense.{get}
+use Rattle.pami_linear.specs.Lists.{get}
 use Rattle.pami_script.specs.Script.{add_entries}
 use Rattle.pami_script.proofs.plain.add_sparse.Given as goal
 

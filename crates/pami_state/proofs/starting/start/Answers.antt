@@ -1,8 +1,7 @@
-use Rattle.std.proofs.Common.{◌≡◌, sym, ap, ◌∙◌, ◌-◌, length, map, take, arith, Ok}
+use Rattle.std.proofs.Common.{◌≡◌, sym, ap, ◌∙◌, ◌-◌, length, take, arith, Ok}
 use Rattle.std.proofs.lemmas.List.{length-take-le}
 use Rattle.std.proofs.lemmas.Result.{err_from_is_err_and}
 use Rattle.pami_state.specs.declared.state.State.{State}
-use Rattle.pami_state.specs.State.{stand_of}
 use Rattle.pami_state.proofs.Begun.{basis_is, solved_is, stands_made, stands_made_length, sums_made, head_made, script_is, script_fits, script_refused}
 use Rattle.pami_state.proofs.starting.start.Goals as goal
 
@@ -38,7 +37,7 @@ returns-clause-basis c =
     let m = c.row_count-rows.result in
     basis_is columns bounds costs c.from_vec.result c.from_vec-2.result
     (c.from_vec.ensures ∙ head_made columns c.in_ok-row_variables.field-0.items m c.row_count-rows.ensures c.in_ok-row_variables.ensures)
-    (ap (map stand_of) c.from_vec-2.ensures ∙ stands_made columns bounds costs ss m c.requires c.row_count-rows.ensures c.in_ok-stands.ensures)
+    (c.from_vec-2.ensures ∙ stands_made columns bounds costs ss m c.requires c.row_count-rows.ensures c.in_ok-stands.ensures)
 
 pub returns-clause-solved : goal.returns-clause-solved
 returns-clause-solved c =

@@ -15,13 +15,13 @@ finish_columns-requires-clause-apart c =
 pub invariant_of-result : goal.invariant_of-result
 invariant_of-result c =
     let d : Draft = record { sense = c.self.inside.sense; constant = c.self.inside.constant; rows = rows_of c.self.inside.rows.entries; columns = columns_of c.self.inside.columns.entries; pairs = c.self.inside.pairs.keys } in
-    let rows : d.rows ≡ c.from_vec-rows.result = sym (c.from_vec-rows.ensures ∙ c.in-Ok.ensures.rows) in
-    let columns : map finished d.columns ≡ c.from_vec-columns.result = sym (c.from_vec-columns.ensures ∙ c.in-Ok-finish_columns.ensures.columns) in
-    let row_names = subst IsDistinct (sym (names_of-rows c.self.inside.rows.entries)) c.in-Ok.ensures.distinct in
-    let column_names = subst IsDistinct (sym (names_of-columns c.self.inside.columns.entries)) c.in-Ok-finish_columns.ensures.distinct in
+    let rows : d.rows ≡ c.from_vec.result = sym (c.from_vec.ensures ∙ c.in_ok-rows.ensures.rows) in
+    let columns : map finished d.columns ≡ c.from_vec-2.result = sym (c.from_vec-2.ensures ∙ c.in_ok-columns.ensures.columns) in
+    let row_names = subst IsDistinct (sym (names_of-rows c.self.inside.rows.entries)) c.in_ok-rows.ensures.distinct in
+    let column_names = subst IsDistinct (sym (names_of-columns c.self.inside.columns.entries)) c.in_ok-columns.ensures.distinct in
     record {
-      rows_kept = subst AreRows rows (rows_kept d c.self.inside.stored c.self.invariant row_names c.in-Ok.ensures.judged);
+      rows_kept = subst AreRows rows (rows_kept d c.self.inside.stored c.self.invariant row_names c.in_ok-rows.ensures.judged);
       columns_kept =
-          subst (λ (rs : List Row). AreColumns (length rs) c.from_vec-columns.result) rows
-          (subst (AreColumns (length d.rows)) columns (columns_kept d c.self.inside.stored c.self.invariant column_names c.in-Ok-finish_columns.ensures.judged));
+          subst (λ (rs : List Row). AreColumns (length rs) c.from_vec-2.result) rows
+          (subst (AreColumns (length d.rows)) columns (columns_kept d c.self.inside.stored c.self.invariant column_names c.in_ok-columns.ensures.judged));
     }

@@ -1,6 +1,6 @@
 use Rattle.std.proofs.Common.{◌≡◌, ◌↔◌, ◌+◌, ℕ, false, get_or, length, refl, sym, arith, IsTrue, ap}
 use borrow.Author.Count.{below_more}
-use Rattle.pami_vec.specs.declared.list.Stand.TheVariants as stands
+use Rattle.pami_theory.specs.declared.words.Stand.TheVariants as stands
 use Rattle.pami_state.specs.State.{IsSignedAt}
 use Rattle.pami_state.proofs.Signed.{signed_read, some_unsigned, feasible_by_signs}
 use Rattle.pami_state.proofs.state.State.dual_feasible.Goals as goal

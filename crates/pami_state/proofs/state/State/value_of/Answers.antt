@@ -1,8 +1,6 @@
 use Rattle.std.proofs.Common.{get_or, ◌∙◌, arith}
-use Rattle.pami_vec.specs.declared.list.Stand.TheVariants as stands
-use Rattle.pami_state.specs.Columns.{limits_by}
-use Rattle.pami_state.specs.State.{stand_of}
-use Rattle.pami_state.proofs.Bounds.{limits_read}
+use Rattle.pami_theory.specs.declared.words.Stand.TheVariants as stands
+use Rattle.pami_state.proofs.Bounds.{bounds_read}
 use Rattle.pami_state.proofs.Placed.{basic_if, basic_only, stand_lent, place_is, value_at, stands_so, standing_at}
 use Rattle.pami_state.proofs.state.State.value_of.Goals as goal
 
@@ -23,18 +21,19 @@ pub returns-clause-nonbasic : goal.returns-clause-nonbasic
 returns-clause-nonbasic c =
     let st = c.args.self.now in
     let v = c.args.variable in
-    stands_so c.args.bounds.now st v (limits_by c.index-bounds-variable.result) (stand_of (get_or c.as_slice.result.now v stands.Basic)) c.standing_value.result c.requires.basis c.requires.variable
-    (limits_read c.args.bounds.now v c.index-bounds-variable.result _ c.requires.variable c.index-bounds-variable.is)
+    stands_so c.args.bounds.now st v c.index-bounds-variable.result (get_or c.as_slice.result.now v stands.Basic) c.value_at.result
+    c.requires.basis c.requires.variable
+    (bounds_read c.args.bounds.now v c.index-bounds-variable.result _ c.requires.variable c.index-bounds-variable.is)
     (stand_lent st c.as_slice.result.now v stands.Basic c.as_slice.ensures (let n = c.requires.stands in let l = c.requires.variable in omega arith))
-    c.standing_value.ensures
+    c.value_at.ensures
 
 pub returns-clause-solved : goal.returns-clause-solved
 returns-clause-solved c = λ f h a.
     let st = c.args.self.now in
     let v = c.args.variable in
     let s = get_or c.as_slice.result.now v stands.Basic in
-    standing_at f c.args.bounds.now st v (limits_by c.index-bounds-variable.result) (stand_of s) c.standing_value.result h a c.requires.variable
-    (limits_read c.args.bounds.now v c.index-bounds-variable.result _ c.requires.variable c.index-bounds-variable.is)
+    standing_at f c.args.bounds.now st v c.index-bounds-variable.result s c.value_at.result h a c.requires.variable
+    (bounds_read c.args.bounds.now v c.index-bounds-variable.result _ c.requires.variable c.index-bounds-variable.is)
     (stand_lent st c.as_slice.result.now v stands.Basic c.as_slice.ensures (let n = c.requires.stands in let l = c.requires.variable in omega arith))
     (basic_only s c.eq.result c.eq.ensures c.if-eq.false)
-    c.standing_value.ensures
+    c.value_at.ensures

@@ -1,0 +1,13 @@
+pub mod Facts
+pub mod FreshTests
+pub mod FileTests
+pub mod BlendingRun
+pub mod PassingRun
+pub mod DroppingRun
+pub mod FlippingRun
+pub mod ReturningRun
+pub mod StoppingRun
+pub mod RefusingRun
+pub mod OverflowingRun
+pub mod SwitchingRun
+pub mod UnboundedRun

@@ -1,0 +1,11 @@
+pub mod Words
+pub mod Blending
+pub mod Passing
+pub mod Dropping
+pub mod Flipping
+pub mod Returning
+pub mod Stopping
+pub mod Refusing
+pub mod Overflowing
+pub mod Switching
+pub mod Unbounded

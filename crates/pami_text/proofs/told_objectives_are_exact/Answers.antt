@@ -1,5 +1,0 @@
-use Rattle.pami_text.proofs.Objectives.{objective_holds}
-use Rattle.pami_text.proofs.told_objectives_are_exact.Goals as goal
-
-pub returns : goal.returns
-returns c = record { objective = objective_holds }

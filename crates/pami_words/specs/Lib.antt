@@ -1,0 +1,5 @@
+pub mod Table
+pub mod Numbers
+pub mod Items
+pub mod Fronts
+pub mod Words

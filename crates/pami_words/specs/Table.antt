@@ -1,0 +1,52 @@
+-- The table of words: the commands, the options, and how each is called.
+use Rattle.std.specs.Prelude.{ℕ, Bool, List, [], ◌∷◌, Option, None, Some, codes, if◌then◌else◌}
+use Rattle.std.specs.Str.{bytes_eq}
+pub use Rattle.pami_method.specs.Walk.{greatest_limit}
+use Rattle.pami_words.specs.declared.table.CommandName.{CommandName}
+use Rattle.pami_words.specs.declared.table.CommandName.TheVariants.{Solve}
+use Rattle.pami_words.specs.declared.table.OptionName.{OptionName}
+use Rattle.pami_words.specs.declared.table.OptionName.TheVariants.{Limit}
+use Rattle.pami_words.specs.declared.table.Takes.{Takes}
+use Rattle.pami_words.specs.declared.table.Takes.TheVariants.{Number}
+
+-- the limit of pivots where none is given
+abbrev pub default_limit : ℕ
+default_limit = 100000
+
+-- how a command is called: its word, how many plain words it takes, and the options that it has
+pub record CommandRow : Type 0 where
+  pub word : List ℕ
+  pub plain : ℕ
+  pub options : List OptionName
+
+-- how an option is given: its word, and what follows it
+pub record OptionRow : Type 0 where
+  pub word : List ℕ
+  pub takes : Takes
+
+-- ---- the rows
+
+abbrev pub commands : List CommandName
+commands = Solve ∷ []
+
+abbrev pub command_row : CommandName → CommandRow
+command_row Solve = record { word = codes "solve"; plain = 1; options = Limit ∷ [] }
+
+abbrev pub option_row : OptionName → OptionRow
+option_row Limit = record { word = codes "--limit"; takes = Number 0 greatest_limit }
+
+-- ---- rows by their words
+
+abbrev pub command_named : List CommandName → List ℕ → Option CommandName
+command_named [] word = None
+command_named (command ∷ commands) word =
+    if bytes_eq (command_row command).word word then Some command else command_named commands word
+
+abbrev pub option_named : List OptionName → List ℕ → Option OptionName
+option_named [] word = None
+option_named (option ∷ options) word =
+    if bytes_eq (option_row option).word word then Some option else option_named options word
+
+-- the same option
+abbrev pub is_option : OptionName → OptionName → Bool
+is_option option other = bytes_eq (option_row option).word (option_row other).word

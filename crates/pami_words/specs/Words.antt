@@ -1,0 +1,73 @@
+-- Which lists of words are a command, and what it asks.
+--
+-- The first word is the command, whole. The words behind it are read as items, and the items are then judged: how many
+-- plain words the command takes, and which options, each at most once. No word asks for help or the version.
+use Rattle.std.specs.Prelude.{ℕ, ◌≤◌, Bool, true, ◌&&◌, List, [], ◌∷◌, length, Option, None, option_map, option_and_then, Result, if◌then◌else◌, nat_eq, nat_le, slice_get}
+use Rattle.std.specs.Option.{unwrap_or}
+use Rattle.pami_words.specs.declared.command.BadWords.{BadWords}
+use Rattle.pami_words.specs.declared.command.Command.{Command}
+use Rattle.pami_words.specs.declared.command.Command.TheVariants.{Solve}
+use Rattle.pami_words.specs.declared.item.Item.{Item}
+use Rattle.pami_words.specs.declared.item.Item.TheVariants.{Plain, Given}
+use Rattle.pami_words.specs.declared.table.CommandName.{CommandName}
+use Rattle.pami_words.specs.declared.table.CommandName.TheVariants as names
+use Rattle.pami_words.specs.declared.table.OptionName.{OptionName}
+use Rattle.pami_words.specs.declared.table.OptionName.TheVariants.{Limit}
+use Rattle.pami_words.specs.Table.{CommandRow, commands, command_row, command_named, is_option, default_limit, greatest_limit}
+use Rattle.pami_words.specs.Items.{or_bad, items_of}
+
+-- ---- what items are given
+
+-- the plain words
+abbrev pub plain_words : List Item → List (List ℕ)
+plain_words [] = []
+plain_words (Plain word ∷ items) = word ∷ plain_words items
+plain_words (Given option number ∷ items) = plain_words items
+
+-- the numbers that an option is given
+abbrev pub numbers_of : OptionName → List Item → List ℕ
+numbers_of option [] = []
+numbers_of option (Plain word ∷ items) = numbers_of option items
+numbers_of option (Given other number ∷ items) =
+    if is_option option other then number ∷ numbers_of option items else numbers_of option items
+
+-- each of these options is given at most once
+abbrev pub are_once : List OptionName → List Item → Bool
+are_once [] items = true
+are_once (option ∷ options) items = nat_le (length (numbers_of option items)) 1 && are_once options items
+
+-- the items are those of the row: as many plain words as it takes, and none of its options twice
+abbrev pub are_for : CommandRow → List Item → Bool
+are_for row items = nat_eq (length (plain_words items)) row.plain && are_once row.options items
+
+-- the plain word at this place among them, and the first number that an option is given
+abbrev pub word_at : ℕ → List Item → Option (List ℕ)
+word_at place items = slice_get (plain_words items) place
+
+abbrev pub number_of : OptionName → List Item → Option ℕ
+number_of option items = slice_get (numbers_of option items) 0
+
+-- ---- commands
+
+-- `solve` takes FILE and the limit of pivots
+abbrev pub solve_asked : List Item → Option Command
+solve_asked items = option_map (λ file. Solve file (unwrap_or (number_of Limit items) default_limit)) (word_at 0 items)
+
+-- what a command is asked by the items of its row
+abbrev pub asked_by : CommandName → List Item → Option Command
+asked_by names.Solve items = solve_asked items
+
+abbrev pub command_by : CommandName → List Item → Option Command
+command_by name items = if are_for (command_row name) items then asked_by name items else None
+
+abbrev pub command_of : List (List ℕ) → CommandName → Option Command
+command_of words name = option_and_then (command_by name) (items_of (command_row name).options words)
+
+-- what the words ask, or that they stand in no row of the table
+abbrev pub read_outcome : List (List ℕ) → Result Command BadWords
+read_outcome [] = or_bad None
+read_outcome (word ∷ words) = or_bad (option_and_then (command_of words) (command_named commands word))
+
+-- what is asked is in its range
+abbrev pub IsInRange : Command → Type 0
+IsInRange (Solve file limit) = limit ≤ greatest_limit

@@ -1,0 +1,28 @@
+//! What the words of a call ask.
+
+use pami_edge::Word;
+use pami_frac::Fault;
+use thiserror::Error;
+
+/// A command with what it is given.
+#[derive(Debug, Drop)]
+pub enum Command {
+    /// Solve the model of FILE with at most `limit` pivots.
+    Solve { file: Word, limit: u32 },
+}
+
+/// The words stand in no row of the table.
+#[derive(Clone, Copy, Debug, PartialEq, Eq, Error)]
+#[error("bad words")]
+pub struct BadWords;
+
+impl From<BadWords> for Fault<BadWords> {
+    ghost use Rattle.std.specs.Prelude.{◌≡◌};
+    ghost use Rattle.pami_frac.specs.declared.fault.Fault.{Fault};
+
+    ghost from_gives = { λ bad e. e ≡ Fault.Named bad };
+
+    fn from(bad: BadWords) -> Fault<BadWords> {
+        Fault::Named(bad)
+    }
+}

@@ -1,0 +1,29 @@
+//! The words of a call: which lists of words are a command, and what it asks.
+//!
+//! Stands on `pami_edge` for the words, on `pami_method` for the greatest numbers of its options, and on `pami_frac` for
+//! digits and the form of the answer. The layers above may rely on `read_words` giving a command exactly where the words
+//! are in the table of `specs/Table.antt`, with what they ask, and on every number of it being in its range. A further
+//! command or option is a further row of that table.
+//!
+//! ```
+//! /// How many pivots the words allow.
+//! fn pivots_allowed(alloc: Global, words: &[Word]) -> Result<u32, Fault<BadWords>> {
+//!     match read_words(alloc, words)? {
+//!         Command::Solve { file: _, limit } => Ok(limit),
+//!     }
+//! }
+//! ```
+#![tactic(auto)]
+
+mod command;
+mod item;
+mod number;
+mod read;
+mod table;
+
+pub use command::{BadWords, Command};
+pub use read::read_words;
+pub use table::DEFAULT_LIMIT;
+
+#[cfg(test)]
+mod tests;

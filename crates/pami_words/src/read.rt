@@ -1,0 +1,181 @@
+//! The reading of all words.
+
+ghost use Rattle.std.specs.Prelude.{◌≡◌, ◌≤◌, length, option_map, IfOk};
+ghost use Rattle.pami_frac.specs.Answers.{FollowsBy};
+ghost use Rattle.pami_words.specs.Items.{all_plain, items_of, or_bad};
+ghost use Rattle.pami_words.specs.Fronts.{item_at_front, behind};
+ghost use Rattle.pami_words.specs.Words as asked;
+
+use crate::command::{BadWords, Command};
+use crate::item::{Item, Reading, given_number, reading_of};
+use crate::table::{CommandName, DEFAULT_LIMIT, OptionName};
+use pami_edge::Word;
+use pami_frac::Fault;
+use std::alloc::Global;
+
+/// The item at the front of a word and those behind it, and the words behind the item.
+fn front_item<'a>(
+    alloc: Global,
+    options: &[OptionName],
+    word: &Word,
+    later: &'a [Word],
+) -> Result<(Item, &'a [Word]), Fault<BadWords>>
+    ensures item { FollowsBy (λ r. (r.0, r.1.now)) (or_bad (item_at_front options.now word.now later.now)) result }
+    ensures shorter { IfOk result (λ r. length r.1.now ≤ length later.now) }
+{
+    match reading_of(alloc, options, word)? {
+        Reading::Alone(item) => Ok((item, later)),
+        Reading::Opens {
+            option,
+            least,
+            greatest,
+        } => {
+            let [next, behind @ ..] = later else {
+                return Err(Fault::Named(BadWords));
+            };
+            let item = given_number(option, least, greatest, next.as_slice()).ok_or(BadWords)?;
+            Ok((item, behind))
+        }
+    }
+}
+
+/// The items so far with those of words that are all plain.
+fn with_plain(alloc: Global, items: Vec<Item>, words: &[Word]) -> Result<Vec<Item>, Fault<BadWords>>
+    ensures { FollowsBy (λ all. all.items) (or_bad (behind items.items (all_plain words.now))) result }
+{
+    let mut items = items;
+    for word in words {
+        if word.as_slice().is_empty() {
+            return Err(Fault::Named(BadWords));
+        }
+        items.push(Item::Plain(word.copy(alloc)?))?;
+    }
+    Ok(items)
+}
+
+/// The items of the words behind a command that has these options.
+fn read_items(
+    alloc: Global,
+    options: &[OptionName],
+    words: &[Word],
+) -> Result<Vec<Item>, Fault<BadWords>>
+    ensures { FollowsBy (λ all. all.items) (or_bad (items_of options.now words.now)) result }
+{
+    let mut items = Vec::new(alloc);
+    let mut rest = words;
+    while let [word, later @ ..] = rest {
+        if word.is(b"--") {
+            return with_plain(alloc, items, later);
+        }
+        let (item, behind) = front_item(alloc, options, word, later)?;
+        items.push(item)?;
+        rest = behind;
+    }
+    Ok(items)
+}
+
+/// How many plain words there are.
+fn count_plain(items: &[Item]) -> usize
+    ensures { result ≡ length (asked.plain_words items.now) }
+{
+    let mut count = 0;
+    for item in items {
+        if let Item::Plain(_) = item {
+            count += 1;
+        }
+    }
+    count
+}
+
+/// The plain word at this place among the plain words.
+fn word_at(items: &[Item], place: usize) -> Option<&Word>
+    ensures { option_map (λ w. w.now) result ≡ asked.word_at place items.now }
+{
+    let mut before = place;
+    for item in items {
+        if let Item::Plain(word) = item {
+            if before == 0 {
+                return Some(word);
+            }
+            before -= 1;
+        }
+    }
+    None
+}
+
+/// How often the option is given.
+fn count_of(items: &[Item], option: OptionName) -> usize
+    ensures { result ≡ length (asked.numbers_of option items.now) }
+{
+    let mut count = 0;
+    for item in items {
+        if let Item::Given(other, _) = item
+            && option.is(*other)
+        {
+            count += 1;
+        }
+    }
+    count
+}
+
+/// The first number that the option is given.
+fn number_of(items: &[Item], option: OptionName) -> Option<u32>
+    ensures { result ≡ asked.number_of option items.now }
+{
+    for item in items {
+        if let Item::Given(other, number) = item
+            && option.is(*other)
+        {
+            return Some(*number);
+        }
+    }
+    None
+}
+
+/// Whether each of these options is given at most once.
+fn are_once(options: &[OptionName], items: &[Item]) -> bool
+    ensures { result ≡ asked.are_once options.now items.now }
+{
+    for option in options {
+        if 1 < count_of(items, *option) {
+            return false;
+        }
+    }
+    true
+}
+
+/// What `solve` is asked by items that are its own.
+fn solve_asked(alloc: Global, items: &[Item]) -> Result<Command, Fault<BadWords>>
+    ensures { FollowsBy (λ command. command) (or_bad (asked.solve_asked items.now)) result }
+{
+    let file = word_at(items, 0).ok_or(BadWords)?;
+    Ok(Command::Solve {
+        file: file.copy(alloc)?,
+        limit: number_of(items, OptionName::Limit).unwrap_or(DEFAULT_LIMIT),
+    })
+}
+
+/// What a command is asked by these items, if they are its own.
+fn command_by(alloc: Global, name: CommandName, items: &[Item]) -> Result<Command, Fault<BadWords>>
+    ensures { FollowsBy (λ command. command) (or_bad (asked.command_by name items.now)) result }
+{
+    if count_plain(items) != name.plain() || !are_once(name.options(), items) {
+        return Err(Fault::Named(BadWords));
+    }
+    match name {
+        CommandName::Solve => solve_asked(alloc, items),
+    }
+}
+
+/// What the words ask. `BadWords` exactly where they stand in no row of the table.
+pub fn read_words(alloc: Global, words: &[Word]) -> Result<Command, Fault<BadWords>>
+    ensures command { FollowsBy (λ command. command) (asked.read_outcome words.now) result }
+    ensures in_range { IfOk result asked.IsInRange }
+{
+    let [first, rest @ ..] = words else {
+        return Err(Fault::Named(BadWords));
+    };
+    let name = CommandName::of(first.as_slice()).ok_or(BadWords)?;
+    let items = read_items(alloc, name.options(), rest)?;
+    command_by(alloc, name, items.as_slice())
+}

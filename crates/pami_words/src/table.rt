@@ -1,0 +1,126 @@
+//! The table of words: the commands, the options, and how each is called.
+
+ghost use Rattle.std.specs.Prelude.{◌≡◌};
+ghost use Rattle.pami_words.specs.Table as table;
+
+use pami_method::GREATEST_LIMIT;
+
+/// The limit of pivots where none is given.
+pub const DEFAULT_LIMIT: u32 = 100_000;
+
+/// A command, by the first word.
+#[derive(Clone, Copy, Debug, PartialEq, Eq)]
+pub enum CommandName {
+    Solve,
+}
+
+/// An option, by its word.
+#[derive(Clone, Copy, Debug, PartialEq, Eq)]
+pub enum OptionName {
+    Limit,
+}
+
+/// What an option is given.
+#[derive(Clone, Copy, Debug, PartialEq, Eq)]
+pub enum Takes {
+    /// No value.
+    Nothing,
+    /// A number in this range.
+    Number { least: u32, greatest: u32 },
+}
+
+/// All commands.
+const COMMANDS: [CommandName; 1] = [CommandName::Solve];
+
+/// The options of `solve`.
+const SOLVE_OPTIONS: [OptionName; 1] = [OptionName::Limit];
+
+impl CommandName {
+    /// The first word of a call.
+    pub fn word(self) -> &'static [u8]
+        ensures { result.now ≡ (table.command_row self).word }
+    {
+        match self {
+            CommandName::Solve => b"solve",
+        }
+    }
+
+    /// How many plain words follow it.
+    pub fn plain(self) -> usize
+        ensures { result ≡ (table.command_row self).plain }
+    {
+        match self {
+            CommandName::Solve => 1,
+        }
+    }
+
+    /// The options that it has.
+    pub fn options(self) -> &'static [OptionName]
+        ensures { result.now ≡ (table.command_row self).options }
+    {
+        match self {
+            CommandName::Solve => &SOLVE_OPTIONS,
+        }
+    }
+
+    /// The command of this word.
+    pub fn of(word: &[u8]) -> Option<CommandName>
+        ensures { result ≡ table.command_named table.commands word.now }
+    {
+        CommandName::among(&COMMANDS, word)
+    }
+
+    /// The one of these commands that has this word.
+    fn among(commands: &[CommandName], word: &[u8]) -> Option<CommandName>
+        ensures { result ≡ table.command_named commands.now word.now }
+    {
+        for command in commands {
+            if command.word() == word {
+                return Some(*command);
+            }
+        }
+        None
+    }
+}
+
+impl OptionName {
+    /// The option's word, without a value.
+    pub fn word(self) -> &'static [u8]
+        ensures { result.now ≡ (table.option_row self).word }
+    {
+        match self {
+            OptionName::Limit => b"--limit",
+        }
+    }
+
+    /// What it is given.
+    pub fn takes(self) -> Takes
+        ensures { result ≡ (table.option_row self).takes }
+    {
+        match self {
+            OptionName::Limit => Takes::Number {
+                least: 0,
+                greatest: GREATEST_LIMIT,
+            },
+        }
+    }
+
+    /// The one of these options that has this word.
+    pub fn among(options: &[OptionName], word: &[u8]) -> Option<OptionName>
+        ensures { result ≡ table.option_named options.now word.now }
+    {
+        for option in options {
+            if option.word() == word {
+                return Some(*option);
+            }
+        }
+        None
+    }
+
+    /// Whether this is the other option.
+    pub fn is(self, other: OptionName) -> bool
+        ensures { result ≡ table.is_option self other }
+    {
+        self.word() == other.word()
+    }
+}

@@ -1,0 +1,172 @@
+//! The words of the table, and words that stand in none of its rows.
+
+use super::*;
+use crate::item::{Item, Reading, option_taking};
+use crate::number::number_between;
+use crate::table::{OptionName, Takes};
+use pami_edge::Word;
+use pami_frac::Fault;
+use std::alloc::Global;
+use std::test::Fail;
+
+fn words(alloc: Global, texts: &[&str]) -> Result<Vec<Word>, Fail> {
+    let mut words = Vec::new(alloc);
+    for text in texts {
+        words.push(Word::from_string(String::from_str(alloc, text)?))?;
+    }
+    Ok(words)
+}
+
+/// The caller that the crate's head shows.
+fn pivots_allowed(alloc: Global, words: &[Word]) -> Result<u32, Fault<BadWords>> {
+    match read_words(alloc, words)? {
+        Command::Solve { file: _, limit } => Ok(limit),
+    }
+}
+
+#[test]
+fn a_caller_takes_what_is_asked(rt: HostRuntime) -> Result<(), Fail> {
+    let given = words(rt.alloc(), &["solve", "m.mps", "--limit", "7"])?;
+    assert!(rt; matches!(pivots_allowed(rt.alloc(), given.as_slice()), Ok(7)));
+    Ok(())
+}
+
+#[test]
+fn words_of_solve(rt: HostRuntime) -> Result<(), Fail> {
+    let alloc = rt.alloc();
+    let rows: [(&[&str], &str, u32); 19] = [
+        (&["solve", "m.mps"], "m.mps", 100_000),
+        (&["solve", "-"], "-", 100_000),
+        (&["solve", "solve"], "solve", 100_000),
+        (&["solve", "--", "m.mps"], "m.mps", 100_000),
+        (&["solve", "m.mps", "--"], "m.mps", 100_000),
+        (&["solve", "--", "-m.mps"], "-m.mps", 100_000),
+        (&["solve", "--", "--"], "--", 100_000),
+        (&["solve", "--", "--limit=5"], "--limit=5", 100_000),
+        (&["solve", "--limit", "5", "m.mps"], "m.mps", 5),
+        (&["solve", "m.mps", "--limit", "5"], "m.mps", 5),
+        (&["solve", "--limit=5", "m.mps"], "m.mps", 5),
+        (&["solve", "m.mps", "--limit=5"], "m.mps", 5),
+        (&["solve", "--limit", "5", "--", "--limit"], "--limit", 5),
+        (&["solve", "--limit=5", "-", "--"], "-", 5),
+        (&["solve", "--limit", "0", "7"], "7", 0),
+        (&["solve", "m.mps", "--limit", "0000000005"], "m.mps", 5),
+        (&["solve", "m.mps", "--limit=0000000000"], "m.mps", 0),
+        (
+            &["solve", "m.mps", "--limit", "0001000000"],
+            "m.mps",
+            1_000_000,
+        ),
+        (&["solve", "m.mps", "--limit=1000000"], "m.mps", 1_000_000),
+    ];
+    for (texts, file, limit) in rows {
+        let words = words(alloc, texts)?;
+        let Ok(
+            Command::Solve {
+                file: name,
+                limit: most,
+            },
+        ) = read_words(alloc, words.as_slice())
+        else {
+            return Err(Fail::from("words of the table"));
+        };
+        assert!(rt; name.is(file.as_bytes()), "FILE {file}");
+        assert_eq!(rt; most, limit, "limit of {file}");
+    }
+    Ok(())
+}
+
+#[test]
+fn words_outside_the_table(rt: HostRuntime) -> Result<(), Fail> {
+    let alloc = rt.alloc();
+    let rows: [&[&str]; 51] = [
+        &[],
+        &["solve"],
+        &["m.mps"],
+        &["check", "m.mps"],
+        &["Solve", "m.mps"],
+        &["solv", "m.mps"],
+        &["m.mps", "solve"],
+        &["--", "solve", "m.mps"],
+        &["--limit", "5", "solve", "m.mps"],
+        // FILE: none, two, empty, or like an option.
+        &["solve", ""],
+        &["solve", "-m.mps"],
+        &["solve", "--"],
+        &["solve", "--limit", "5"],
+        &["solve", "--limit=5"],
+        &["solve", "--limit", "m.mps"],
+        &["solve", "m.mps", "m.mps"],
+        &["solve", "m.mps", "--limit", "5", "m.mps"],
+        &["solve", "m.mps", "--", "m.mps"],
+        &["solve", "m.mps", ""],
+        &["solve", "--", ""],
+        &["solve", "m.mps", "--", ""],
+        &["solve", "--", "--", "--"],
+        &["solve", "--", "m.mps", "--limit", "5"],
+        // The option: twice, without its value, or with an empty one.
+        &["solve", "m.mps", "--limit", "5", "--limit", "5"],
+        &["solve", "--limit=5", "m.mps", "--limit", "5"],
+        &["solve", "m.mps", "--limit"],
+        &["solve", "--limit", "--", "m.mps"],
+        &["solve", "m.mps", "--limit", ""],
+        &["solve", "m.mps", "--limit="],
+        &["solve", "m.mps", "--limit=", "5"],
+        &["solve", "m.mps", "--limit", "=5"],
+        // The value: a sign, other bytes, too many digits, too large.
+        &["solve", "m.mps", "--limit", "-5"],
+        &["solve", "m.mps", "--limit=-5"],
+        &["solve", "m.mps", "--limit", "-"],
+        &["solve", "m.mps", "--limit", "+5"],
+        &["solve", "m.mps", "--limit", "5.0"],
+        &["solve", "m.mps", "--limit", " 5"],
+        &["solve", "m.mps", "--limit==5"],
+        &["solve", "m.mps", "--limit", "00000000005"],
+        &["solve", "m.mps", "--limit=00000000005"],
+        &["solve", "m.mps", "--limit", "1000001"],
+        &["solve", "m.mps", "--limit=1000001"],
+        &["solve", "m.mps", "--limit", "4294967301"],
+        &["solve", "m.mps", "--limit", "9999999999"],
+        // No abbreviations, and no other options.
+        &["solve", "m.mps", "--lim", "5"],
+        &["solve", "m.mps", "--limits", "5"],
+        &["solve", "m.mps", "--Limit", "5"],
+        &["solve", "m.mps", "-limit", "5"],
+        &["solve", "m.mps", "-l", "5"],
+        &["solve", "m.mps", "--help"],
+        &["solve", "--version"],
+    ];
+    for texts in rows {
+        let words = words(alloc, texts)?;
+        let read = read_words(alloc, words.as_slice());
+        assert!(rt; matches!(read, Err(Fault::Named(BadWords))));
+    }
+    Ok(())
+}
+
+/// What no row takes yet: an option without a value, and a range that doesn't begin with 0.
+#[test]
+fn flags_and_ranges(rt: HostRuntime) -> Result<(), Fail> {
+    let flag = option_taking(OptionName::Limit, Takes::Nothing, b"");
+    assert!(rt;
+        matches!(
+            flag,
+            Some(Reading::Alone(Item::Given(OptionName::Limit, 0)))
+        )
+    );
+    for value in [b"=".as_slice(), b"=1".as_slice()] {
+        assert!(rt; option_taking(OptionName::Limit, Takes::Nothing, value).is_none());
+    }
+    for (text, number) in [
+        ("0", None),
+        ("1", Some(1)),
+        ("8", Some(8)),
+        ("9", None),
+        ("08", Some(8)),
+    ] {
+        assert_eq!(rt; number_between(text.as_bytes(), 1, 8), number, "{text}");
+    }
+    assert_eq!(rt; number_between(b"4294967295", 0, u32::MAX), Some(u32::MAX));
+    assert_eq!(rt; number_between(b"4294967296", 0, u32::MAX), None);
+    Ok(())
+}

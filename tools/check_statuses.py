@@ -1,0 +1,183 @@
+#!/usr/bin/env python3
+"""Runs the built program once for each status that it may end with, and compares status, standard output and
+standard error with what docs/FORMATS.md says. Every text here was worked out from that document by hand.
+
+check_statuses.py [PROGRAM]. Ends with 1 where something differs. Where there is no program, it says so and ends with 0.
+"""
+import os
+import subprocess
+import sys
+import tempfile
+
+TOP = os.path.dirname(os.path.dirname(os.path.realpath(__file__)))
+PROGRAM = f"{TOP}/crates/pami_cli/out/pami_cli"
+SECONDS = 60
+
+# One row r with 2 x >= 4 at the cost of x: x is 2, and a unit more of r costs 1/2.
+GOOD = """ROWS
+ N c
+ G r
+COLUMNS
+ x c 1 r 2
+RHS
+ r 4
+ENDATA
+"""
+GOOD_TEXT = """pami 1
+model 1 1 1
+phase 2
+major 1 full 0
+pivot 1 0 r:r L x:x 1/2
+answer optimal
+certificate 1 optimal
+objective 2
+x x 2 0
+r r 4 1/2
+end
+basis B L
+"""
+# No pivot is allowed: all variables stand as at the start, the column at its lower bound.
+LIMIT_TEXT = """pami 1
+model 1 1 1
+phase 2
+answer limit 0
+basis L B
+"""
+# x is at least 0, and the row r wants it at most -1. The row's multiplier is below 0, as its upper bound is passed.
+INFEASIBLE = GOOD.replace(" G r", " L r").replace(" r 2", " r 1").replace(" r 4", " r -1")
+INFEASIBLE_TEXT = """pami 1
+model 1 1 1
+phase 2
+major 1 full 0
+none 0 r:r
+answer infeasible
+certificate 1 infeasible
+r r -1
+end
+"""
+# 10 x >= 100 and 10^-38 x >= 1: the elimination's multiplier has the denominator 10^39, which is past 2^127.
+WIDE = """ROWS
+ N c
+ G a
+ G b
+COLUMNS
+ x c 1 a 10
+ x b 1e-38
+RHS
+ a 100 b 1
+ENDATA
+"""
+SMALL = "1/1" + 38 * "0"
+WIDE_TEXT = f"""pami 1
+model 2 1 2
+phase 2
+major 1 full 0
+pivot 1 0 r:a L x:x 1/10
+rollback 2 factor div {SMALL} 10
+answer overflow factor div {SMALL} 10
+"""
+# A cost below 0.
+FALLING = GOOD.replace("x c 1", "x c -1")
+# Another section than the profile has.
+UNREAD = GOOD.replace("ENDATA", "BOUNDS\nENDATA")
+FILES = {
+    "good.mps": GOOD,
+    "infeasible.mps": INFEASIBLE,
+    "wide.mps": WIDE,
+    "falling.mps": FALLING,
+    "unread.mps": UNREAD,
+    "--limit": GOOD,
+    # More than 8 megabytes of comments before the model, for a run that gets less memory than that.
+    "long.mps": 200000 * ("*" + 40 * " " + "\n") + GOOD,
+}
+BAD_WORDS, REFUSED, READ_FAULT = "bad words\n", "refused\n", "read fault\n"
+NO_TEXT = b"\xff"
+
+# What is shown, the words, the status and the text.
+ROWS = [
+    ("an optimal answer", ["solve", "good.mps"], 0, GOOD_TEXT),
+    ("a file with a dash in front, behind --", ["solve", "--", "--limit"], 0, GOOD_TEXT),
+    ("a file of 8 megabytes", ["solve", "long.mps"], 0, GOOD_TEXT),
+    ("no words", [], 2, BAD_WORDS),
+    ("no command", ["good.mps"], 2, BAD_WORDS),
+    ("no file", ["solve"], 2, BAD_WORDS),
+    ("an empty file name", ["solve", ""], 2, BAD_WORDS),
+    ("an option that isn't there", ["solve", "good.mps", "--help"], 2, BAD_WORDS),
+    ("a limit past the greatest", ["solve", "good.mps", "--limit", "1000001"], 2, BAD_WORDS),
+    ("a word that is no UTF-8", ["solve", NO_TEXT], 2, BAD_WORDS),
+    ("a word that is no UTF-8 behind a whole command", ["solve", "good.mps", NO_TEXT], 2, BAD_WORDS),
+    ("a file outside of the profile", ["solve", "unread.mps"], 3, REFUSED),
+    ("a file that isn't there", ["solve", "missing.mps"], 4, READ_FAULT),
+    ("a folder", ["solve", "."], 4, READ_FAULT),
+    ("an infeasible answer", ["solve", "infeasible.mps"], 10, INFEASIBLE_TEXT),
+    ("the limit of pivots", ["solve", "good.mps", "--limit", "0"], 12, LIMIT_TEXT),
+    ("the limit in one word", ["solve", "--limit=0", "good.mps"], 12, LIMIT_TEXT),
+    ("a number that doesn't fit", ["solve", "wide.mps"], 13, WIDE_TEXT),
+    ("a cost below 0", ["solve", "falling.mps"], 30, "needs phase one\n"),
+]
+
+
+def run(program, folder, words, out=subprocess.PIPE, kilobytes=None):
+    """Status, output and standard error of one call in the folder, in that much memory where it is said."""
+    words = [it if isinstance(it, bytes) else it.encode() for it in [program, *words]]
+    if kilobytes:
+        words = [b"sh", b"-c", b'ulimit -c 0; ulimit -v "$0" && exec "$@"', str(kilobytes).encode(), *words]
+    return subprocess.run(
+        words, cwd=folder, stdin=subprocess.DEVNULL, stdout=out, stderr=subprocess.PIPE, timeout=SECONDS
+    )
+
+
+def differs(title, ran, status, text):
+    """Prints what is not as it should be. A text of None isn't compared."""
+    wrong = []
+    if ran.returncode != status:
+        wrong.append(f"status {ran.returncode} in place of {status}")
+    if text is not None and ran.stdout != text.encode():
+        wrong.append(f"the text\n{ran.stdout.decode(errors='replace')}in place of\n{text}")
+    if ran.stderr:
+        wrong.append(f"on standard error\n{ran.stderr.decode(errors='replace')}")
+    for it in wrong:
+        print(f"check_statuses: {title}: {it}")
+    return bool(wrong)
+
+
+def write_fault(program, folder):
+    """Nothing can be written to /dev/full, so the answer is status 5. What it took can't be read again."""
+    if not os.path.exists("/dev/full"):
+        print("check_statuses: status 5 is skipped, as there is no /dev/full")
+        return False
+    with open("/dev/full", "wb") as full:
+        ran = run(program, folder, ["solve", "good.mps"], out=full)
+    return differs("an output that can't be written", ran, 5, None)
+
+
+def want_of_memory(program, folder):
+    """Status 6 with nothing written: the file of 8 megabytes in a megabyte more than the program needs for a small one.
+
+    How much that is depends on the system, so it is found by trying.
+    """
+    for megabytes in range(1, 65):
+        if run(program, folder, ["solve", "good.mps"], kilobytes=megabytes << 10).returncode == 0:
+            ran = run(program, folder, ["solve", "long.mps"], kilobytes=megabytes << 10)
+            return differs(f"a file of 8 megabytes in {megabytes} megabytes of memory", ran, 6, "")
+    print("check_statuses: status 6 is skipped, as the program takes more memory here than can be told from a file")
+    return False
+
+
+def main(program=PROGRAM):
+    if not os.access(program, os.X_OK):
+        print(f"check_statuses: skipped, as there is no program at {program}")
+        return 0
+    program = os.path.abspath(program)
+    with tempfile.TemporaryDirectory() as folder:
+        for name, text in FILES.items():
+            with open(f"{folder}/{name}", "w", encoding="utf-8") as it:
+                it.write(text)
+        bad = [differs(title, run(program, folder, words), status, text) for title, words, status, text in ROWS]
+        bad += [write_fault(program, folder), want_of_memory(program, folder)]
+    print(f"check_statuses: {len(bad) - sum(bad)} calls as they should be, {sum(bad)} not")
+    return int(any(bad))
+
+
+if __name__ == "__main__":
+    sys.exit(main(*sys.argv[1:]))

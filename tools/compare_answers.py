@@ -1,0 +1,134 @@
+#!/usr/bin/env python3
+"""Runs two programs on models drawn by draw_models.py and compares what they write and how they end.
+
+compare_answers.py PROGRAM REFERENCE --seed S --count N [--jobs J]. PROGRAM and REFERENCE are commands, behind which the
+words `solve FILE --limit K` are put; both run in the folder of the models. Standard output and exit status must be the
+same, byte for byte, and some text must be there. Each difference is printed, the first few in full; then how often
+REFERENCE gave each kind of answer, and how often something else that is worth a count. Ends with 1 where something
+differs.
+"""
+import argparse
+import collections
+import concurrent.futures
+import os
+import re
+import shlex
+import shutil
+import subprocess
+import sys
+import tempfile
+
+# No folder of compiled files is left beside this one.
+sys.dont_write_bytecode = True
+import draw_models  # noqa: E402
+
+SECONDS = 120
+IN_FULL = 5
+# What is counted beside the kinds of answers, and how a text shows it.
+EVENTS = [
+    ("with a rollback", r"^rollback "),
+    ("with a major kept in the mode single", r"^major \d+ single"),
+    ("with five pivots or more", r"^pivot 5 "),
+    ("with a row's variable that enters", r"^pivot \d+ \d+ \S+ \S r:"),
+    ("with a column's variable that leaves", r"^pivot \d+ \d+ x:"),
+    ("with a pivot that costs nothing", r"^pivot .* 0$"),
+    ("with an overflow in a later slice", r"^answer overflow (price|shift)-\d+-[1-9]"),
+    ("with an objective that doesn't fit", r"^objective wide$"),
+]
+
+
+def command_of(text):
+    """The words of a command. The files in it are named from the root, as it is to run in another folder."""
+    words = shlex.split(text)
+    for at, word in enumerate(words):
+        if os.path.isfile(word) and (at > 0 or "/" in word):
+            words[at] = os.path.abspath(word)
+    if not words or not shutil.which(words[0]):
+        sys.exit(f"compare_answers: there is no program {text!r}")
+    return words
+
+
+def answer(command, words, folder):
+    """Exit status, standard output and standard error of one call, a character for each byte.
+
+    There is no status where it doesn't end in time.
+    """
+    try:
+        ran = subprocess.run(
+            command + words, cwd=folder, stdin=subprocess.DEVNULL, capture_output=True, timeout=SECONDS
+        )
+    except subprocess.TimeoutExpired:
+        return None, "", f"stopped after {SECONDS} seconds\n"
+    return ran.returncode, ran.stdout.decode("latin-1"), ran.stderr.decode("latin-1")
+
+
+def differs(given, due):
+    """Whether the answers aren't the same, or aren't answers."""
+    return given[:2] != due[:2] or given[0] is None or not given[1]
+
+
+def kind_of(status, text):
+    """What an answer is counted as: its word, with the place of an overflow, or the line that stands alone."""
+    said = re.search(r"^answer (overflow [a-z]+|\w+)", text, re.MULTILINE)
+    if said:
+        return said.group(1)
+    if text.count("\n") == 1:
+        return text.strip()
+    return f"no answer, status {status}"
+
+
+def show(number, words, folder, given, due):
+    """Prints a difference."""
+    what = "another text" if given[0] == due[0] else f"status {given[0]} in place of {due[0]}"
+    line = f"difference {number}: {shlex.join(words)}: {what}"
+    if number > IN_FULL:
+        print(line)
+        return
+    with open(os.path.join(folder, words[1]), encoding="ascii", newline="") as file:
+        model = file.read()
+    print(f"{line}\n--- the model\n{model}", end="")
+    for title, (status, text, error) in (("PROGRAM", given), ("REFERENCE", due)):
+        end = "" if not text or text.endswith("\n") else " (no line feed)\n"
+        print(f"--- {title}, status {status}\n{text}", end=end)
+        if error:
+            print(f"--- {title}, standard error\n{error}", end="")
+    print("---")
+
+
+def compare(program, reference, seed, count, jobs):
+    """How many differences there are; the counts are printed."""
+    kinds, events = collections.Counter(), collections.Counter()
+    differences = 0
+    with tempfile.TemporaryDirectory() as folder, concurrent.futures.ThreadPoolExecutor(jobs) as pool:
+        calls = [["solve", name, "--limit", str(limit)] for name, limit in draw_models.write_all(seed, count, folder)]
+        pairs = pool.map(lambda words: (answer(program, words, folder), answer(reference, words, folder)), calls)
+        for words, (given, due) in zip(calls, pairs):
+            kinds[kind_of(*due[:2])] += 1
+            events.update(title for title, shown in EVENTS if re.search(shown, due[1], re.MULTILINE))
+            if differs(given, due):
+                differences += 1
+                show(differences, words, folder, given, due)
+    for kind, times in kinds.most_common():
+        print(f"{times:6} {kind}")
+    for title, _ in EVENTS:
+        print(f"{events[title]:6} {title}")
+    if differences:
+        print(f"`draw_models.py --seed {seed} --count {count} FOLDER` draws these models again")
+    print(f"{count} models, {differences} differences")
+    return differences
+
+
+def main():
+    parser = argparse.ArgumentParser(description=__doc__.split("\n")[0])
+    parser.add_argument("program")
+    parser.add_argument("reference")
+    parser.add_argument("--seed", type=int, required=True)
+    parser.add_argument("--count", type=int, required=True)
+    parser.add_argument("--jobs", type=int, default=1)
+    given = parser.parse_args()
+    commands = command_of(given.program), command_of(given.reference)
+    return int(compare(*commands, given.seed, given.count, given.jobs) > 0)
+
+
+if __name__ == "__main__":
+    sys.exit(main())
