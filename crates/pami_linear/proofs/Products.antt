@@ -12,9 +12,9 @@ use Rattle.pami_linear.specs.Systems.{Solves, Combines, IsRegular, replaced}
 use Rattle.pami_linear.specs.Active.{part, minus_to, but}
 use Rattle.pami_linear.specs.Elimination.{EliminationStep, forward, backward}
 use Rattle.pami_linear.specs.Chains.{Eliminates}
-use Rattle.pami_linear.specs.Products.{ProductPivot, IsProductPivot, combination, columns_with, columns_after, transformed, transformed_by, gathered, gathered_by}
+use Rattle.pami_linear.specs.Products.{ProductPivot, IsProductPivot, combination, columns_with, columns_after, AreAfter, transformed, transformed_by, gathered, gathered_by}
 use Rattle.pami_linear.proofs.Parts.{part_but, part_same, minus_is, set_same, set_other, but_ne}
-use Rattle.pami_linear.proofs.Systems.{solutions_meet}
+use Rattle.pami_linear.proofs.Systems.{solutions_meet, solves_same, combines_same, regular_same}
 use Rattle.pami_linear.proofs.Pivoted.{replaced_combines}
 use Rattle.pami_linear.proofs.Solutions.{forward_is, backward_is}
 use Rattle.pami_linear.proofs.Regular.{regular_after_pivot, solves_to_quotient}
@@ -76,10 +76,23 @@ combines_after m (e ∷ es) b y d a s =
     (gathered_combines m e b (combination m b e.column) y (gathered_by m es d) k.place_low k.nonzero (combination_solves m b e.column) s)
 
 -- ---- on top of an elimination
-pub forward_after : (m : ℕ) (ss : List EliminationStep) (es : List ProductPivot) (b : ℕ → ℕ → Fraction) (r : ℕ → Fraction) → Eliminates m b ss → All (IsProductPivot m) es
-    → Solves m (columns_after m b es) (transformed_by es (forward m ss r)) r
-forward_after m ss es b r q a = solves_after m es b (forward m ss r) r a (forward_is m b ss r q)
 
-pub backward_after : (m : ℕ) (ss : List EliminationStep) (es : List ProductPivot) (b : ℕ → ℕ → Fraction) (d : ℕ → Fraction) → Eliminates m b ss → All (IsProductPivot m) es
-    → Combines m (columns_after m b es) (backward m ss (gathered_by m es d)) d
-backward_after m ss es b d q a = combines_after m es b (backward m ss (gathered_by m es d)) d a (backward_is m b ss (gathered_by m es d) q)
+-- ---- and so by other columns that agree with them
+module _ (m : ℕ) (es : List ProductPivot) (b c : ℕ → ℕ → Fraction) where
+  pub regular_by : All (IsProductPivot m) es → AreAfter m es b c → IsRegular m b → IsRegular m c
+  regular_by a h g = regular_same m (columns_after m b es) c h (regular_after m es b a g)
+
+  pub solves_by : (x r : ℕ → Fraction) → All (IsProductPivot m) es → AreAfter m es b c → Solves m b x r → Solves m c (transformed_by es x) r
+  solves_by x r a h s =
+      solves_same m (columns_after m b es) c (transformed_by es x) (transformed_by es x) r r h (λ k l. refl) (λ i l. refl) (solves_after m es b x r a s)
+
+  pub combines_by : (y d : ℕ → Fraction) → All (IsProductPivot m) es → AreAfter m es b c → Combines m b y (gathered_by m es d) → Combines m c y d
+  combines_by y d a h s = combines_same m (columns_after m b es) c y y d d h (λ i l. refl) (λ k l. refl) (combines_after m es b y d a s)
+
+pub forward_by : (m : ℕ) (ss : List EliminationStep) (es : List ProductPivot) (b c : ℕ → ℕ → Fraction) (r : ℕ → Fraction) → Eliminates m b ss → All (IsProductPivot m) es
+    → AreAfter m es b c → Solves m c (transformed_by es (forward m ss r)) r
+forward_by m ss es b c r q a h = solves_by m es b c (forward m ss r) r a h (forward_is m b ss r q)
+
+pub backward_by : (m : ℕ) (ss : List EliminationStep) (es : List ProductPivot) (b c : ℕ → ℕ → Fraction) (d : ℕ → Fraction) → Eliminates m b ss → All (IsProductPivot m) es
+    → AreAfter m es b c → Combines m c (backward m ss (gathered_by m es d)) d
+backward_by m ss es b c d q a h = combines_by m es b c (backward m ss (gathered_by m es d)) d a h (backward_is m b ss (gathered_by m es d) q)

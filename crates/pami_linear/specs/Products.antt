@@ -30,6 +30,10 @@ abbrev pub columns_after : ℕ → (ℕ → ℕ → Fraction) → List ProductPi
 columns_after m b [] = b
 columns_after m b (e ∷ es) = columns_after m (columns_with m b e) es
 
+-- the columns c are those after the pivots, at the rows and places of a basis with m places
+abbrev pub AreAfter : ℕ → List ProductPivot → (ℕ → ℕ → Fraction) → (ℕ → ℕ → Fraction) → Type 0
+AreAfter m es b c = (k i : ℕ) → k < m → i < m → columns_after m b es k i ≡ c k i
+
 -- a solution, by place, through one pivot: the quotient at its place, and the others less its multiple
 abbrev pub transformed : ProductPivot → (ℕ → Fraction) → ℕ → Fraction
 transformed e x = stepped e.place e.column (x e.place /ᶠ e.column e.place) x

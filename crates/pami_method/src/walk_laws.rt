@@ -1,13 +1,15 @@
 //! Walks: one major of a state, one walk, and the limit of its pivots.
 
-ghost use Rattle.std.specs.Prelude.{◌≡◌, ℕ, ◌≤◌, List};
+ghost use Rattle.std.specs.Prelude.{◌≡◌, ℕ, ◌≤◌, List, Some};
 ghost use Rattle.std.specs.List.{All};
 ghost use Rattle.pami_theory.specs.Form.{Form};
 ghost use Rattle.pami_theory.specs.Basis.{IsBasis};
 ghost use Rattle.pami_theory.specs.Fresh.{IsFresh};
 ghost use Rattle.pami_method.specs.declared.words.Mode.{Mode};
+ghost use Rattle.pami_method.specs.declared.words.Mode.TheVariants.{Full, Single};
 ghost use Rattle.pami_method.specs.declared.words.Options.{Options};
-ghost use Rattle.pami_method.specs.Walk.{State, Major, IsMajor, WalkEnd, Optimal, Limit, IsWalk};
+ghost use Rattle.pami_method.specs.declared.words.Place.{Place};
+ghost use Rattle.pami_method.specs.Walk.{State, Major, IsMajor, WalkEnd, Optimal, Limit, Overflow, Ends, GoesOn, refused_in, after, IsWalk};
 
 /// A state that stands at a basis has one major of a number and a mode, and what it begins with is determined by the mode.
 pub fn majors_are_determined()
@@ -17,6 +19,15 @@ pub fn majors_are_determined()
         → IsMajor f o st g → IsMajor f o st h → g ≡ h }
     ensures ends { (f : Form) (o : Options) (st : State) (g : Major) → IsBasis f st.basis → IsMajor f o st g
         → IsBasis f g.last.basis × IsFresh f g.last.basis g.last.fresh }
+{}
+
+/// A refused major of mode Full is rolled back: one of mode Single follows from the same state, so that none of its pivots
+/// counts. A refused one of mode Single ends the walk with its refusal.
+pub fn refused_majors_are_rolled_back()
+    ensures again { (f : Form) (o : Options) (st : State) (g : Major) (refused : Place) → g.mode ≡ Full
+        → refused_in f o st g ≡ Some refused → after f o st g ≡ GoesOn Single st }
+    ensures ends { (f : Form) (o : Options) (st : State) (g : Major) (refused : Place) → g.mode ≡ Single
+        → refused_in f o st g ≡ Some refused → after f o st g ≡ Ends (Overflow refused) }
 {}
 
 /// From a state that stands at a basis there is one walk at most: its majors and its end.
