@@ -1,10 +1,11 @@
 #!/usr/bin/env python3
 """Compares the documents with the sources and with the built program.
 
-1. Each name in backticks stands in some source (comments don't count), as does each word with an underscore or a capital
-   inside it in a fenced block, and each crate that is named anywhere; each path in backticks stands in the repository.
-2. Where a document says `function` (`clause`, `clause`: what they say; `clause`: what it says), a function of that name has
-   these clauses.
+1. Each name in backticks stands in some source (comments of .rt and .antt files don't count), as does each word with an
+   underscore or a capital inside it in a fenced block, and each crate that is named anywhere; each path in backticks
+   stands in the repository.
+2. Where a document says `function` (`clause`, `clause`: what they say; `clause`: what it says), the functions of that
+   name together have these clauses.
 3. A fenced block that names a file behind its language, as ```rust crates/pami_cli/src/run.rt, quotes it: each of its
    lines stands in that file.
 4. The arrows of a mermaid picture are what each crate stands on, by crates.txt, without what follows from other arrows.

@@ -512,7 +512,7 @@ def faulty(draw):
     return "".join(lines)
 
 
-# Each place is worth the same share. None is a text that may be no model.
+# Each place is worth the same share. `faulty` draws a text that may be no model, each other kind a model.
 KINDS = [
     optimal, infeasible, wide, ties, chains, met_wide, priced, stopped, lower, slices,
     larger, infeasible, dense, ties, aside, met_wide, sided, stopped, stairs, delayed,

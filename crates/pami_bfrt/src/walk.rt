@@ -79,7 +79,7 @@ fn walk_rest(left: &[Candidate], flips: Vec<u32>, slope: Frac) -> Result<Walk, F
     Ok(Walk::NoEntering)
 }
 
-/// `ratio_walk`, by its script alone.
+/// `ratio_walk`, by its script alone, so that no loop is proved with the other clause.
 fn walk_of(
     alloc: Global,
     stands: &[Stand],

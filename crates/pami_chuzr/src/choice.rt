@@ -15,7 +15,7 @@ use crate::row::{ChosenRow, RankedRow};
 use pami_frac::{Bounds, Fault, Frac, Refused};
 use std::alloc::Global;
 
-/// `choose`, by its script alone.
+/// `choose`, by its script alone, so that no loop is proved with the other clause.
 fn chosen_rows(
     alloc: Global,
     values: &[Frac],

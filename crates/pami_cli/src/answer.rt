@@ -32,6 +32,10 @@ pub struct Answer {
 }
 
 /// The answer where an operation of the starting values didn't fit.
+///
+/// # Errors
+///
+/// `OutOfMemory` alone.
 pub fn refused_start(alloc: Global, model: &Model, refused: Refused) -> Result<Answer, OutOfMemory>
     ensures status { IfOk result (λ a. a.status ≡ Status.Overflow) }
     ensures text { IfOk result (λ a. a.text.items ≡ text (head_lines (counts_of (contents model.now))) ++ line (codes "answer" ∷ codes "overflow" ∷ refused_words (record { task = Start; refused = refused }))) }
@@ -49,7 +53,11 @@ pub fn refused_start(alloc: Global, model: &Model, refused: Refused) -> Result<A
     })
 }
 
-/// What a model is answered from the end of its walk, the last state and the walk's events.
+/// What a model is answered from the end of its walk, the last state and the walk's events. The bounds go by variable.
+///
+/// # Errors
+///
+/// `OutOfMemory` alone.
 pub fn ended_answer(
     alloc: Global,
     model: &Model,

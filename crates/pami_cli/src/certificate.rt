@@ -41,6 +41,10 @@ fn told_objective(constant: Frac, columns: &[Column], values: &[Frac]) -> Option
 }
 
 /// The line of a variable: a tag, its name, its value and its reduced cost.
+///
+/// # Errors
+///
+/// `OutOfMemory` alone.
 fn push_valued(
     out: &mut Vec<u8>,
     tag: u8,
@@ -62,6 +66,10 @@ fn push_valued(
 }
 
 /// The lines of the columns, whose values and reduced costs are the first of these.
+///
+/// # Errors
+///
+/// `OutOfMemory` alone.
 fn push_columns(
     out: &mut Vec<u8>,
     columns: &[Column],
@@ -79,6 +87,10 @@ fn push_columns(
 }
 
 /// The lines of the rows, whose values and reduced costs begin behind those of the columns.
+///
+/// # Errors
+///
+/// `OutOfMemory` alone.
 fn push_rows(
     out: &mut Vec<u8>,
     rows: &[Row],
@@ -98,6 +110,10 @@ fn push_rows(
 }
 
 /// The objective of a certificate.
+///
+/// # Errors
+///
+/// `OutOfMemory` alone.
 fn push_objective(out: &mut Vec<u8>, objective: Option<Frac>) -> Result<(), OutOfMemory>
     ensures { OnOk result (out.new.items ≡ out.old.items ++ objective_word objective) }
 {
@@ -107,7 +123,11 @@ fn push_objective(out: &mut Vec<u8>, objective: Option<Frac>) -> Result<(), OutO
     }
 }
 
-/// The certificate of values and reduced costs.
+/// The certificate of values and reduced costs, which both go by variable.
+///
+/// # Errors
+///
+/// `OutOfMemory` alone.
 pub fn push_certificate(
     out: &mut Vec<u8>,
     model: &Model,
@@ -129,6 +149,7 @@ pub fn push_certificate(
 }
 
 /// A member of the ray of a row without an entering variable: the row, turned so that the distance counts upward.
+/// `row` goes by row of the model.
 fn ray_member(side: Side, row: &SpVec, i: u32) -> Frac
     requires { i < length row.now }
     ensures { result ≡ get (ray side row.now) i }
@@ -136,7 +157,11 @@ fn ray_member(side: Side, row: &SpVec, i: u32) -> Frac
     side.toward(row.at(i))
 }
 
-/// The lines of the rows, each with its member of the ray.
+/// The lines of the rows, each with its member of the ray. `row` goes by row of the model, as the rows do.
+///
+/// # Errors
+///
+/// `OutOfMemory` alone.
 pub fn push_ray(out: &mut Vec<u8>, rows: &[Row], side: Side, row: &SpVec) -> Result<(), OutOfMemory>
     requires { length rows.now ≡ length row.now }
     ensures { OnOk result (out.new.items ≡ out.old.items ++ text (named_lines (codes "r") 0 (names_of_rows rows.now) (get (ray side row.now)))) }

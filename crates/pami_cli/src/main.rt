@@ -1,7 +1,8 @@
 //! The program: what the words of a call ask for, read, solved and written.
 //!
-//! Stands on all crates of the solver, the words and the files. `run_plain` is the whole of it, over a shelf of named files and a sink, and carries the
-//! theorem from bytes to bytes; `main` hands it the files and the output of the machine.
+//! Stands on all crates of the solver, the words and the files. `run_plain` is the whole of it, over a shelf of named
+//! files and a sink, and carries the theorem from bytes to bytes; `main` hands it the words, the files and the output
+//! of the machine.
 #![tactic(auto)]
 
 mod answer;

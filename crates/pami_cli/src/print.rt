@@ -23,6 +23,10 @@ use pami_vec::{Side, SpVec, Stand};
 use std::alloc::Global;
 
 /// A whole number.
+///
+/// # Errors
+///
+/// `OutOfMemory` alone.
 fn push_count(out: &mut Vec<u8>, count: u32) -> Result<(), OutOfMemory>
     ensures { OnOk result (out.new.items ≡ out.old.items ++ decimal count) }
 {
@@ -32,6 +36,10 @@ fn push_count(out: &mut Vec<u8>, count: u32) -> Result<(), OutOfMemory>
 }
 
 /// The letters of these stands, or a dash for none.
+///
+/// # Errors
+///
+/// `OutOfMemory` alone.
 fn push_letters(out: &mut Vec<u8>, stands: &[Stand]) -> Result<(), OutOfMemory>
     ensures { OnOk result (out.new.items ≡ out.old.items ++ letters stands.now) }
 {
@@ -46,6 +54,10 @@ fn push_letters(out: &mut Vec<u8>, stands: &[Stand]) -> Result<(), OutOfMemory>
 }
 
 /// The line of a basis: the letters of the columns, which are the first of these stands, and those of the rows.
+///
+/// # Errors
+///
+/// `OutOfMemory` alone.
 fn push_basis(out: &mut Vec<u8>, columns: usize, stands: &[Stand]) -> Result<(), OutOfMemory>
     requires { columns ≤ length stands.now }
     ensures { OnOk result (out.new.items ≡ out.old.items ++ line (codes "basis" ∷ letters (take columns stands.now) ∷ letters (drop columns stands.now) ∷ [])) }
@@ -60,6 +72,10 @@ fn push_basis(out: &mut Vec<u8>, columns: usize, stands: &[Stand]) -> Result<(),
 }
 
 /// The last lines of a run that ended optimal: the values of all variables, and the last state.
+///
+/// # Errors
+///
+/// `OutOfMemory` alone.
 pub fn push_optimal(
     out: &mut Vec<u8>,
     model: &Model,
@@ -77,6 +93,10 @@ pub fn push_optimal(
 }
 
 /// The last lines of a run that ended at the limit of pivots.
+///
+/// # Errors
+///
+/// `OutOfMemory` alone.
 pub fn push_limit(out: &mut Vec<u8>, model: &Model, state: &State) -> Result<(), OutOfMemory>
     requires { length (contents model.now).columns + length (contents model.now).rows ≡ length state.now.stands }
     ensures { OnOk result (out.new.items ≡ out.old.items ++ limit_text (contents model.now) state.now.pivots (basis_of state.now)) }
@@ -88,6 +108,10 @@ pub fn push_limit(out: &mut Vec<u8>, model: &Model, state: &State) -> Result<(),
 }
 
 /// The last lines of a run that ended at a row without an entering variable, whose variable is outside on this side.
+///
+/// # Errors
+///
+/// `OutOfMemory` alone.
 pub fn push_infeasible(
     out: &mut Vec<u8>,
     model: &Model,
@@ -104,6 +128,10 @@ pub fn push_infeasible(
 }
 
 /// The last line of a run that ended at an operation that didn't fit.
+///
+/// # Errors
+///
+/// `OutOfMemory` alone.
 pub fn push_overflow(out: &mut Vec<u8>, place: &Place) -> Result<(), OutOfMemory>
     ensures { OnOk result (out.new.items ≡ out.old.items ++ line (codes "answer" ∷ codes "overflow" ∷ refused_words place.now)) }
 {
@@ -114,6 +142,10 @@ pub fn push_overflow(out: &mut Vec<u8>, place: &Place) -> Result<(), OutOfMemory
 }
 
 /// The lines of events.
+///
+/// # Errors
+///
+/// `OutOfMemory` alone.
 fn push_events(out: &mut Vec<u8>, model: &Model, events: &[Event]) -> Result<(), OutOfMemory>
     ensures { OnOk result (out.new.items ≡ out.old.items ++ flat_map (λ e. text (event_lines (names_of (contents model.now)) (counts_of (contents model.now)) e)) events.now) }
 {
@@ -124,6 +156,10 @@ fn push_events(out: &mut Vec<u8>, model: &Model, events: &[Event]) -> Result<(),
 }
 
 /// The first lines of a run in phase two, from the events of its walk.
+///
+/// # Errors
+///
+/// `OutOfMemory` alone.
 pub fn begun(alloc: Global, model: &Model, events: &[Event]) -> Result<Vec<u8>, OutOfMemory>
     ensures { IfOk result (λ out. out.items ≡ begun_text (contents model.now) events.now) }
 {

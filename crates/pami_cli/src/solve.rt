@@ -88,6 +88,7 @@ pub fn model_answer(alloc: Global, model: &Model, limit: u32) -> Result<Answer, 
 {
     match form_of(alloc, model) {
         Ok(form) => form_answer(alloc, model, &form, limit),
+        // A form is refused only by a width, and `fits` says that all widths fit.
         Err(Fault::Named(_)) => unreachable!(),
         Err(Fault::OutOfMemory) => Err(OutOfMemory),
     }

@@ -47,7 +47,7 @@ ShelfFailed shelf = Rose shelf.faults_before shelf.faults_after
 abbrev pub SinkFailed : SinkCall → Type 0
 SinkFailed sink = Rose sink.faults_before sink.faults_after
 
--- the count is another than before
+-- the count is greater than before
 abbrev pub ShelfCounted : ShelfCall → Type 0
 ShelfCounted shelf = shelf.faults_before < shelf.faults_after
 

@@ -1,4 +1,5 @@
--- The third major is rolled back, and the row alone is refused too: the run ends with that refusal.
+-- The first major is rolled back and its first row leaves alone; the third is rolled back at a solve, and alone its
+-- row is refused at the new elimination, which ends the run.
 use Rattle.std.specs.Prelude.{[], ◌∷◌, ℕ, List, codes}
 use lib.IntN.{pos}
 use Rattle.pami_theory.specs.Form.{Form}

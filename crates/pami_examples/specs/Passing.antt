@@ -1,4 +1,4 @@
--- Both candidates are flipped and distance is left: the row proves infeasibility.
+-- Both candidates are passed and distance is left: the row proves infeasibility.
 -- The upper bounds of the columns can't be said in a file yet.
 use Rattle.std.specs.Prelude.{[], ◌∷◌, ℕ, List, codes}
 use lib.IntN.{pos}

@@ -9,7 +9,8 @@ ghost use Rattle.pami_text.specs.Record.{run_lines};
 ghost use Rattle.pami_examples.specs.Words.{usual};
 ghost use Rattle.pami_examples.specs.Overflowing.{overflowing_file, overflowing_contents, overflowing, overflowing_record, overflowing_answer, overflowing_named, overflowing_text};
 
-/// The third major is rolled back, and the row alone is refused too: the run ends with that refusal.
+/// The first major is rolled back and its first row leaves alone; the third is rolled back at a solve, and alone its
+/// row is refused at the new elimination, which ends the run.
 pub fn overflowing_is_solved()
     ensures read { Mps overflowing_file overflowing_contents }
     ensures formed { model_form overflowing_contents ≡ overflowing }

@@ -15,6 +15,7 @@ pub record Named : Type 0 where
   pub constant : Fraction
   pub cost : ℕ → Fraction
 
+-- the line of an answer, from the words behind its first
 abbrev pub answer_line : List (List ℕ) → List (List ℕ)
 answer_line words = codes "answer" ∷ words
 
@@ -37,6 +38,7 @@ pub record Optimal : Type 0 where
   pub columns : List Valued
   pub rows : List Valued
 
+-- a value; None for a refusal
 abbrev pub kept_or_none : Result Fraction Refused → Option Fraction
 kept_or_none (Ok value) = Some value
 kept_or_none (Err refused) = None
@@ -45,6 +47,7 @@ kept_or_none (Err refused) = None
 abbrev pub objective_in : Named → (ℕ → Fraction) → Option Fraction
 objective_in m x = kept_or_none (add_dot m.counts.columns m.cost x m.constant)
 
+-- the certificate of these values and reduced costs, by variable
 abbrev pub certificate_of : Named → (ℕ → Fraction) → (ℕ → Fraction) → Optimal
 certificate_of m x d = record {
   objective = objective_in m x;
@@ -52,13 +55,16 @@ certificate_of m x d = record {
   rows = valued_from (length m.names.columns) m.names.rows x d;
 }
 
+-- the objective; `wide` where there is none
 abbrev pub objective_word : Option Fraction → List ℕ
 objective_word None = codes "wide"
 objective_word (Some v) = printed v
 
+-- the line of a variable: a tag, its name, its value and its reduced cost
 abbrev pub valued_line : List ℕ → Valued → List (List ℕ)
 valued_line tag v = tag ∷ v.name ∷ printed v.value ∷ printed v.reduced ∷ []
 
+-- the lines of an optimal certificate
 abbrev pub optimal_lines : Optimal → List (List (List ℕ))
 optimal_lines o =
     (codes "certificate" ∷ codes "1" ∷ codes "optimal" ∷ []) ∷
@@ -72,7 +78,7 @@ abbrev pub named_lines : List ℕ → ℕ → List (List ℕ) → (ℕ → Fract
 named_lines tag v [] x = []
 named_lines tag v (name ∷ names) x = (tag ∷ name ∷ printed (x v) ∷ []) ∷ named_lines tag (suc v) names x
 
--- the factors of the rows
+-- the lines of a certificate of infeasibility: the multiplier of each row
 abbrev pub infeasible_lines : Named → List Fraction → List (List (List ℕ))
 infeasible_lines m y =
     (codes "certificate" ∷ codes "1" ∷ codes "infeasible" ∷ []) ∷

@@ -1,5 +1,5 @@
 //! What the readers of model files share: their numbers, infinite values, a builder's refusal as a fault of the file,
-//! and that a file has one first fault.
+//! and that a file has at most one first fault.
 
 ghost use Rattle.std.specs.Prelude.{◌≡◌, ℕ, Option, IfOk};
 ghost use Rattle.pami_frac.specs.Answers.{Follows};
@@ -70,7 +70,7 @@ pub fn file_fault(fault: Fault<BuildFault>) -> Fault<FileKind>
     }
 }
 
-/// A text has one first fault.
+/// A text has at most one first fault.
 pub fn one_first_fault()
     ensures { (judged : ℕ → Option FileKind) (line_of : ℕ → ℕ) → HasOneFault judged line_of }
 {}

@@ -29,6 +29,7 @@ file_cost c j = member (λ (column : Column). column.cost) zero_f c.columns j
 abbrev pub bounds_of : Contents → List Bounds
 bounds_of c = map (λ (column : Column). column.bounds) c.columns ++ map (λ (row : Row). row.bounds) c.rows
 
+-- the form: rows, columns, the entries of each column as a whole list, bounds, and costs to be made small
 abbrev pub model_form : Contents → Form
 model_form c = record {
   rows = length c.rows;

@@ -94,7 +94,7 @@ fn price_onto(
     Ok(())
 }
 
-/// `price_slice`, by its script alone.
+/// `price_slice`, by its script alone, so that no loop is proved with the other clause.
 fn slice_entries(
     alloc: Global,
     columns: &[SpVec],
@@ -153,7 +153,7 @@ fn in_slice(slice: u32, fault: Fault<Refused>) -> Fault<SliceRefused>
     }
 }
 
-/// `price_all`, by its script alone.
+/// `price_all`, by its script alone, so that no loop is proved with the other clause.
 fn all_entries(
     alloc: Global,
     columns: &[SpVec],
@@ -177,7 +177,7 @@ fn all_entries(
 }
 
 /// The entries of the whole pivot row, all slices ascending: for each nonbasic variable `rho` times its column, zeros
-/// left out.
+/// left out. Columns and stands go by variable, `rho` by row.
 ///
 /// # Errors
 ///

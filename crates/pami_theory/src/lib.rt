@@ -5,7 +5,8 @@
 //! Stands on `pami_linear`, and on `pami_frac` for the plain types of bounds and entries. Nothing here runs but for the
 //! words that programs say too (`Stand`, `Side`, `Violation`): each other function has an empty body, and its contract is a
 //! list of theorems about the definitions of `specs/`, which speak of no program, and of no width but through the view of
-//! those plain types. The layers above may rely on those definitions and on each theorem, and cite the lemmas of `proofs/` that carry the theorems.
+//! those plain types. The layers above may rely on those definitions and on each theorem, and cite the lemmas of
+//! `proofs/` that carry the theorems.
 #![tactic(auto)]
 
 pub mod basis_laws;

@@ -20,7 +20,8 @@ pub enum Side {
     Below,
 }
 
-/// How far a value is outside of its bounds: the side, and the distance from the bound that is passed; it is above 0.
+/// How far a value is outside of its bounds: the side, and the distance from the bound that is passed, above 0 where
+/// `violation` finds it.
 #[derive(Clone, Copy, Debug, PartialEq, Eq)]
 pub struct Violation {
     pub side: Side,

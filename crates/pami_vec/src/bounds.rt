@@ -17,7 +17,8 @@ pub fn value_or_zero(bound: Option<Frac>) -> Frac
     }
 }
 
-/// The value of a nonbasic variable that stands so; 0 for a basic one.
+/// The value of a nonbasic variable with these bounds that stands so; 0 for a basic one. Both are of one
+/// variable.
 pub fn value_at(bounds: &Bounds, stand: Stand) -> Frac
     ensures { result ≡ standing_value bounds.now stand }
 {

@@ -26,22 +26,27 @@ pub record OptionRow : Type 0 where
 
 -- ---- the rows
 
+-- all commands
 abbrev pub commands : List CommandName
 commands = Solve ∷ []
 
+-- the row of a command
 abbrev pub command_row : CommandName → CommandRow
 command_row Solve = record { word = codes "solve"; plain = 1; options = Limit ∷ [] }
 
+-- the row of an option
 abbrev pub option_row : OptionName → OptionRow
 option_row Limit = record { word = codes "--limit"; takes = Number 0 greatest_limit }
 
 -- ---- rows by their words
 
+-- the first of these commands that has this word
 abbrev pub command_named : List CommandName → List ℕ → Option CommandName
 command_named [] word = None
 command_named (command ∷ commands) word =
     if bytes_eq (command_row command).word word then Some command else command_named commands word
 
+-- the first of these options that has this word
 abbrev pub option_named : List OptionName → List ℕ → Option OptionName
 option_named [] word = None
 option_named (option ∷ options) word =

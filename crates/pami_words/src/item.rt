@@ -90,6 +90,11 @@ fn option_reading(options: &[OptionName], word: &[u8]) -> Option<Reading>
 }
 
 /// A word that isn't the end of the options.
+///
+/// # Errors
+///
+/// `Named` exactly where the word is neither plain nor one of these options, alone or with a value that it takes.
+/// `OutOfMemory` where memory runs out.
 pub fn reading_of(
     alloc: Global,
     options: &[OptionName],

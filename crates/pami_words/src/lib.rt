@@ -3,7 +3,8 @@
 //! Stands on `pami_edge` for the words, on `pami_method` for the greatest numbers of its options, and on `pami_frac` for
 //! digits and the form of the answer. The layers above may rely on `read_words` giving a command exactly where the words
 //! are in the table of `specs/Table.antt`, with what they ask, and on every number of it being in its range. A further
-//! command or option is a further row of that table.
+//! command or option is a further row of that table; in the code it is a variant of `CommandName` or `OptionName` with
+//! its arms in `table.rt`, and for a command a variant of `Command` with what it is asked in `read.rt`.
 //!
 //! ```
 //! /// How many pivots the words allow.

@@ -14,6 +14,11 @@ use pami_frac::Fault;
 use std::alloc::Global;
 
 /// The item at the front of a word and those behind it, and the words behind the item.
+///
+/// # Errors
+///
+/// `Named` exactly where the word is no item and opens none, or the next word isn't there or is no number in the
+/// option's range. `OutOfMemory` where memory runs out.
 fn front_item<'a>(
     alloc: Global,
     options: &[OptionName],
@@ -40,6 +45,10 @@ fn front_item<'a>(
 }
 
 /// The items so far with those of words that are all plain.
+///
+/// # Errors
+///
+/// `Named` exactly where one of the words is empty. `OutOfMemory` where memory runs out.
 fn with_plain(alloc: Global, items: Vec<Item>, words: &[Word]) -> Result<Vec<Item>, Fault<BadWords>>
     ensures { FollowsBy (λ all. all.items) (or_bad (behind items.items (all_plain words.now))) result }
 {
@@ -54,6 +63,10 @@ fn with_plain(alloc: Global, items: Vec<Item>, words: &[Word]) -> Result<Vec<Ite
 }
 
 /// The items of the words behind a command that has these options.
+///
+/// # Errors
+///
+/// `Named` exactly where some word is no item at its place. `OutOfMemory` where memory runs out.
 fn read_items(
     alloc: Global,
     options: &[OptionName],
@@ -145,6 +158,10 @@ fn are_once(options: &[OptionName], items: &[Item]) -> bool
 }
 
 /// What `solve` is asked by items that are its own.
+///
+/// # Errors
+///
+/// `Named` exactly where there is no plain word. `OutOfMemory` where memory runs out.
 fn solve_asked(alloc: Global, items: &[Item]) -> Result<Command, Fault<BadWords>>
     ensures { FollowsBy (λ command. command) (or_bad (asked.solve_asked items.now)) result }
 {
@@ -156,6 +173,10 @@ fn solve_asked(alloc: Global, items: &[Item]) -> Result<Command, Fault<BadWords>
 }
 
 /// What a command is asked by these items, if they are its own.
+///
+/// # Errors
+///
+/// `Named` exactly where the items aren't those of the command's row. `OutOfMemory` where memory runs out.
 fn command_by(alloc: Global, name: CommandName, items: &[Item]) -> Result<Command, Fault<BadWords>>
     ensures { FollowsBy (λ command. command) (or_bad (asked.command_by name items.now)) result }
 {
@@ -167,7 +188,11 @@ fn command_by(alloc: Global, name: CommandName, items: &[Item]) -> Result<Comman
     }
 }
 
-/// What the words ask. `BadWords` exactly where they stand in no row of the table.
+/// What the words ask.
+///
+/// # Errors
+///
+/// `Named` exactly where they stand in no row of the table. `OutOfMemory` where memory runs out.
 pub fn read_words(alloc: Global, words: &[Word]) -> Result<Command, Fault<BadWords>>
     ensures command { FollowsBy (λ command. command) (asked.read_outcome words.now) result }
     ensures in_range { IfOk result asked.IsInRange }
