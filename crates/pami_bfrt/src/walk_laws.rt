@@ -16,10 +16,13 @@ ghost use Rattle.pami_bfrt.specs.Agreement.{IsTable, AreRowEntries};
 /// Where the table and the entries are those of a form, a basis and a row that leaves, the walk meets the operations of
 /// the method's script, and where none is refused it finds what the theory's walk finds.
 pub fn walks_follow_the_method()
-    ensures script { (f : Form) (b : Basis) (l : Leaving) (t : Table) (alpha : List Entry) (violation : Violation) → IsTable f b l t → AreRowEntries f b l alpha → l.violation ≡ violation
+    ensures script { (f : Form) (b : Basis) (l : Leaving) (t : Table) (alpha : List Entry) (violation : Violation)
+        → IsTable f b l t → AreRowEntries f b l alpha → l.violation ≡ violation
         → walk_script t alpha violation ≡ then (ratio_script f b l) (λ slope. Ok (the_ratio_walk f b l)) }
-    ensures found { (f : Form) (b : Basis) (l : Leaving) (t : Table) (alpha : List Entry) (violation : Violation) (found : Option Entering) → IsTable f b l t → AreRowEntries f b l alpha → l.violation ≡ violation
+    ensures found { (f : Form) (b : Basis) (l : Leaving) (t : Table) (alpha : List Entry) (violation : Violation) (found : Option Entering)
+        → IsTable f b l t → AreRowEntries f b l alpha → l.violation ≡ violation
         → walk_script t alpha violation ≡ Ok found → found ≡ the_ratio_walk f b l }
-    ensures refused { (f : Form) (b : Basis) (l : Leaving) (t : Table) (alpha : List Entry) (violation : Violation) (r : Refused) → IsTable f b l t → AreRowEntries f b l alpha → l.violation ≡ violation
+    ensures refused { (f : Form) (b : Basis) (l : Leaving) (t : Table) (alpha : List Entry) (violation : Violation) (r : Refused)
+        → IsTable f b l t → AreRowEntries f b l alpha → l.violation ≡ violation
         → walk_script t alpha violation ≡ Err r → ratio_script f b l ≡ Err r }
 {}

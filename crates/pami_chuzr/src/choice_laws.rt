@@ -20,12 +20,16 @@ pub fn violations_are_outside()
 /// At a basis, the rows that are chosen over the lists of its places are those that the theory chooses, and the operations
 /// are those of its script.
 pub fn choices_are_those_of_a_basis()
-    ensures rows { (f : Form) (b : Basis) (s : Fresh) (bounds : List Bounds) (values : List Fraction) (weights : List ℕ) (most : ℕ) → AreOfPlaces f b s bounds values → chosen_by bounds values weights most ≡ the_chosen f b s weights most }
-    ensures operations { (f : Form) (b : Basis) (s : Fresh) (bounds : List Bounds) (values : List Fraction) → AreOfPlaces f b s bounds values → places_script bounds values ≡ choose_script f b s }
+    ensures rows { (f : Form) (b : Basis) (s : Fresh) (bounds : List Bounds) (values : List Fraction) (weights : List ℕ) (most : ℕ)
+        → AreOfPlaces f b s bounds values → chosen_by bounds values weights most ≡ the_chosen f b s weights most }
+    ensures operations { (f : Form) (b : Basis) (s : Fresh) (bounds : List Bounds) (values : List Fraction)
+        → AreOfPlaces f b s bounds values → places_script bounds values ≡ choose_script f b s }
 {}
 
 /// What is answered at a basis: the theory's rows where its script isn't refused, and otherwise its first refusal.
 pub fn choices_follow_the_basis()
-    ensures value { (f : Form) (b : Basis) (s : Fresh) (bounds : List Bounds) (values : List Fraction) (weights : List ℕ) (most : ℕ) (rows : List ChosenRow) → AreOfPlaces f b s bounds values → choice_script bounds values weights most ≡ Ok rows → rows ≡ map chosen_row (the_chosen f b s weights most) }
-    ensures refused { (f : Form) (b : Basis) (s : Fresh) (bounds : List Bounds) (values : List Fraction) (weights : List ℕ) (most : ℕ) (r : Refused) → AreOfPlaces f b s bounds values → (choice_script bounds values weights most ≡ Err r) ↔ (choose_script f b s ≡ Err r) }
+    ensures value { (f : Form) (b : Basis) (s : Fresh) (bounds : List Bounds) (values : List Fraction) (weights : List ℕ) (most : ℕ) (rows : List ChosenRow)
+        → AreOfPlaces f b s bounds values → choice_script bounds values weights most ≡ Ok rows → rows ≡ map chosen_row (the_chosen f b s weights most) }
+    ensures refused { (f : Form) (b : Basis) (s : Fresh) (bounds : List Bounds) (values : List Fraction) (weights : List ℕ) (most : ℕ) (r : Refused)
+        → AreOfPlaces f b s bounds values → (choice_script bounds values weights most ≡ Err r) ↔ (choose_script f b s ≡ Err r) }
 {}
