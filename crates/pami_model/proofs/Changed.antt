@@ -1,5 +1,5 @@
 -- Lists with one member changed, and the table behind them.
-use Rattle.std.proofs.Common.{◌≡◌, ◌+◌, ◌<◌, ℕ, suc, zero, false, List, [], ◌∷◌, map, length, Some, slice_get, refl, sym, ap, ◌∙◌, subst, arith, sub-one, nat_eq, if◌then◌else◌}
+use Rattle.std.proofs.Common.{◌≡◌, ◌+◌, ◌<◌, ℕ, suc, zero, false, List, [], ◌∷◌, map, length, None, Some, slice_get, get_or, refl, sym, ap, ◌∙◌, subst, arith, sub-one, nat_eq, if◌then◌else◌}
 use Rattle.std.proofs.lemmas.Bool.{ne_eqb}
 use Rattle.std.specs.Global.{Vec}
 use Rattle.std.specs.List.{All, sum_by}
@@ -63,3 +63,13 @@ module _ {V R : Type 0} (member : List ℕ × V → R) (f : R → R) (v w : V) (
   changed-written [] i at = refl
   changed-written (e ∷ es) zero at = let same : e.1 ≡ v = cc in ap (λ y. y ∷ map member (named es)) (is e.0.items ∙ ap (λ u. f (member (e.0.items, u))) (sym same))
   changed-written (e ∷ es) (suc i) at = ap (λ ys. member (e.0.items, e.1) ∷ ys) (changed-written es i at) ∙ sym (changed-suc f i (member (e.0.items, e.1)) (map member (named es)))
+
+-- what a table's member at an index says of the value there
+pub said-at : {V R X : Type 0} (member : List ℕ × V → R) (field : R → X) (g : V → X) → ((n : List ℕ) (v : V) → field (member (n, v)) ≡ g v)
+    → (es : List (Vec ℕ × V)) (i : ℕ) (v : V) (d : R) → slice_get (values_of es) i ≡ Some v → field (get_or (map member (named es)) i d) ≡ g v
+said-at member field g is [] i v d at = absurd (no-member at)
+  where
+    no-member : {W : Type 0} {w : W} → None ≡ Some w → ⊥
+    no-member e = cc
+said-at member field g is (e ∷ es) zero v d at = let same : e.1 ≡ v = cc in is e.0.items e.1 ∙ ap g same
+said-at member field g is (e ∷ es) (suc i) v d at = said-at member field g is es i v d at

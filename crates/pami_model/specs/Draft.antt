@@ -1,5 +1,5 @@
 -- What a builder has been given so far, what it refuses next, and the model that it finishes.
-use Rattle.std.specs.Prelude.{◌≡◌, ℕ, ◌+◌, ◌&&◌, Bool, true, false, not, if◌then◌else◌, List, [], ◌∷◌, ◌++◌, length, map, fold, position, Option, Some, None, nat_eq, nat_lt}
+use Rattle.std.specs.Prelude.{◌≡◌, ℕ, ◌+◌, ◌&&◌, Bool, true, false, not, if◌then◌else◌, List, [], ◌∷◌, ◌++◌, length, map, fold, position, Option, Some, None, nat_eq, nat_lt, slice_index_or}
 use Rattle.std.specs.List.{list_any}
 use Rattle.std.specs.Option.{option_map, option_or}
 use Rattle.std.specs.Str.{bytes_eq}
@@ -87,6 +87,13 @@ changed i f (x ∷ xs) = if nat_eq i 0 then f x ∷ xs else x ∷ changed (Rattl
 -- the column with one entry more, where the value isn't 0
 abbrev pub stores : ℕ → Fraction → Column → Column
 stores row value c = if is_zero value then c else record c { entries = c.entries ++ record { place = row; value = value } ∷ [] }
+
+-- the row, and the column, of this number
+abbrev pub row_at : List Row → ℕ → Row
+row_at rows i = slice_index_or rows i (new_row [] nonnegative)
+
+abbrev pub column_at : List Column → ℕ → Column
+column_at columns i = slice_index_or columns i (new_column [])
 
 -- the row, and the column, with another setting
 abbrev pub row_with_bounds : Bounds → Row → Row

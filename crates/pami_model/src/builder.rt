@@ -8,7 +8,7 @@ ghost use Rattle.std.specs.List.{All, list_any};
 ghost use Rattle.pami_frac.specs.Answers.{Follows};
 ghost use Rattle.pami_model.specs.Rules.{IsDistinct, column_limit, names_of_rows, names_of_columns, row_limit};
 ghost use Rattle.pami_model.specs.Build.{IsApart, built_column, columns_of, rows_of, duplicate_on, limit_on, name_fault, named, names_of, too_many_on};
-ghost use Rattle.pami_model.specs.Draft.{changed, crossed_column, crossed_row, first_crossed, column_with_bounds, column_with_cost, empty_draft, entry_fault, finished, is_crossed, is_pair, row_with_bounds, stores, place_of, row_fault, column_fault, new_row, new_column};
+ghost use Rattle.pami_model.specs.Draft.{changed, column_at, row_at, crossed_column, crossed_row, first_crossed, column_with_bounds, column_with_cost, empty_draft, entry_fault, finished, is_crossed, is_pair, row_with_bounds, stores, place_of, row_fault, column_fault, new_row, new_column};
 
 use crate::fault::{BuildFault, Crossed, What};
 use crate::limit::{COLUMN_LIMIT, ENTRY_LIMIT, NAME_LIMIT, ROW_LIMIT};
@@ -345,6 +345,44 @@ impl Builder {
         ensures counted { length self.new.columns ≡ length self.old.columns }
     {
         self.columns[column as usize].cost = cost;
+    }
+
+    /// The bounds of a row; its number is below the count of rows.
+    pub fn row_bounds_at(&self, row: u32) -> Bounds
+        requires { row < length self.now.rows }
+        ensures { result ≡ (row_at self.now.rows row).bounds }
+    {
+        self.rows[row as usize]
+    }
+
+    /// The bounds of a column; its number is below the count of columns.
+    pub fn column_bounds_at(&self, column: u32) -> Bounds
+        requires { column < length self.now.columns }
+        ensures { result ≡ (column_at self.now.columns column).bounds }
+    {
+        self.columns[column as usize].bounds
+    }
+
+    /// The cost of a column; its number is below the count of columns.
+    pub fn cost_at(&self, column: u32) -> Frac
+        requires { column < length self.now.columns }
+        ensures { result ≡ (column_at self.now.columns column).cost }
+    {
+        self.columns[column as usize].cost
+    }
+
+    /// The constant of the objective.
+    pub fn constant(&self) -> Frac
+        ensures { result ≡ self.now.constant }
+    {
+        self.constant
+    }
+
+    /// The sense of the objective.
+    pub fn sense(&self) -> Sense
+        ensures { result ≡ self.now.sense }
+    {
+        self.sense
     }
 
     /// Sets the sense of the objective and its constant.

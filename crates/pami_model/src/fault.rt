@@ -33,7 +33,7 @@ pub enum Crossed {
 /// What is wrong with a line of a model file.
 #[derive(Clone, Copy, Debug, PartialEq, Eq)]
 pub enum FileKind {
-    /// A control byte.
+    /// A control byte, or a byte that no token has.
     Byte,
     /// An unknown section word.
     Section,
@@ -41,8 +41,14 @@ pub enum FileKind {
     Order,
     /// A wrong count of words.
     Words,
+    /// A token that the grammar can't take.
+    Syntax,
     /// An unknown type of row.
     RowType,
+    /// An unknown type of bound.
+    BoundType,
+    /// An unknown sense of the objective.
+    Sense,
     /// A mark of an integer model.
     Integer,
     /// A row's name that stood before.
@@ -53,12 +59,18 @@ pub enum FileKind {
     DuplicateEntry,
     /// A row that wasn't declared.
     UnknownRow,
+    /// A column that wasn't declared.
+    UnknownColumn,
     /// A word that should be a decimal and isn't.
     Number,
-    /// A decimal past the limits.
+    /// A decimal past the limits, or a sum or a computed range that doesn't fit.
     Wide,
     /// An infinite value where none may stand.
     Infinite,
+    /// A range on an N row.
+    RangeOnN,
+    /// A lower bound or side above the upper one.
+    Crossed,
     /// A name of more than `NAME_LIMIT` bytes.
     NameLong,
     /// One row more than the limit.
