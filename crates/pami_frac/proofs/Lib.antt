@@ -18,3 +18,6 @@ pub mod Digits
 pub mod Outcomes
 pub mod Fitting
 pub mod Answers
+pub mod PrintedParts
+pub mod Infinite
+pub mod BoundOutcome

@@ -6,5 +6,6 @@ pub mod Answers
 pub mod Decimal
 pub mod DecimalShort
 pub mod DecimalDigits
+pub mod BoundText
 pub mod Arithmetic
 pub mod Checked

@@ -8,6 +8,7 @@ ghost use Rattle.pami_frac.specs.Decimal.{is_digit as digit_test, is_mark as mar
 ghost use Rattle.pami_frac.specs.DecimalShort.{trimmed_digits};
 ghost use Rattle.pami_frac.specs.DecimalDigits.{IsRead, zeros_of, IsSameScale};
 
+pub(crate) mod far;
 mod trimmed;
 
 use crate::decimal::trimmed::{Trimmed, joined};
@@ -58,7 +59,7 @@ fn is_point(byte: u8) -> bool
 }
 
 /// The place of the first `e` or `E`, or the length.
-fn mark_place(bytes: &[u8]) -> usize
+pub(crate) fn mark_place(bytes: &[u8]) -> usize
     ensures place { result ≡ position_or_len mark_test bytes.now }
     ensures within { result ≤ length bytes.now }
 {
@@ -71,7 +72,7 @@ fn mark_place(bytes: &[u8]) -> usize
 }
 
 /// The place of the first point, or the length.
-fn point_place(bytes: &[u8]) -> usize
+pub(crate) fn point_place(bytes: &[u8]) -> usize
     ensures place { result ≡ position_or_len point_test bytes.now }
     ensures within { result ≤ length bytes.now }
 {
@@ -83,7 +84,7 @@ fn point_place(bytes: &[u8]) -> usize
     bytes.len()
 }
 
-fn is_negative(text: &[u8]) -> bool
+pub(crate) fn is_negative(text: &[u8]) -> bool
     ensures { result ≡ begins_negative text.now }
 {
     match text {
@@ -93,7 +94,7 @@ fn is_negative(text: &[u8]) -> bool
 }
 
 /// The text without the sign that it may begin with.
-fn unsigned(text: &[u8]) -> &[u8]
+pub(crate) fn unsigned(text: &[u8]) -> &[u8]
     ensures { result.now ≡ the_unsigned text.now }
 {
     match text {
@@ -192,7 +193,7 @@ fn read_digits(start: Mantissa, digits: &[u8]) -> Mantissa
 }
 
 /// The number that digits write, or some number from `FAR` on where that is as large.
-fn number(digits: &[u8]) -> u128
+pub(crate) fn number(digits: &[u8]) -> u128
     requires { list_all digit_test digits.now ≡ true }
     ensures near { result < FAR → number_after 0 digits.now ≡ result }
     ensures far { FAR ≤ result → FAR ≤ number_after 0 digits.now }
@@ -301,7 +302,7 @@ fn value_of(negative: bool, mantissa: Mantissa, part: &[u8], places: usize) -> O
 }
 
 /// The rest of a text that begins with a point, without it.
-fn after_point(text: &[u8]) -> &[u8]
+pub(crate) fn after_point(text: &[u8]) -> &[u8]
     ensures { result.now ≡ drop 1 text.now }
 {
     match text {

@@ -82,6 +82,11 @@ pub enum NewFault {
     TooWide,
 }
 
+/// The text isn't the printed text of a fraction that fits.
+#[derive(Clone, Copy, Debug, PartialEq, Eq, Error)]
+#[error("not a printed fraction")]
+pub struct NotANumber;
+
 /// Why a text is no decimal that fits.
 #[derive(Clone, Copy, Debug, PartialEq, Eq, Error)]
 pub enum DecimalFault {
