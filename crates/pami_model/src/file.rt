@@ -6,12 +6,12 @@ ghost use Rattle.pami_frac.specs.Answers.{Follows};
 ghost use Rattle.pami_frac.specs.Decimal.{decimal_value};
 ghost use Rattle.pami_model.specs.declared.fault.FileKind.{FileKind};
 ghost use Rattle.pami_model.specs.FirstFault.{HasOneFault};
-ghost use Rattle.pami_model.specs.Number.{is_infinite as the_infinite, judge_number};
+ghost use Rattle.pami_model.specs.Number.{is_infinite as the_infinite, judge_limit, judge_number, limit_value};
 ghost use Rattle.pami_model.specs.Refusal.{widened};
 
 use crate::fault::{BuildFault, FileKind, What};
 use crate::limit::INFINITY;
-use pami_frac::{DecimalFault, Fault, Frac, read_decimal};
+use pami_frac::{BoundValue, DecimalFault, Fault, Frac, read_bound, read_decimal};
 
 /// The number that a word spells. `Number` where the word is no decimal, `Wide` where the decimal doesn't fit.
 pub fn read_number(word: &[u8]) -> Result<Frac, Fault<FileKind>>
@@ -19,6 +19,19 @@ pub fn read_number(word: &[u8]) -> Result<Frac, Fault<FileKind>>
     ensures value { IfOk result (λ v. v ≡ decimal_value word.now) }
 {
     match read_decimal(word) {
+        Ok(value) => Ok(value),
+        Err(DecimalFault::NotANumber) => Err(Fault::Named(FileKind::Number)),
+        Err(DecimalFault::TooWide) => Err(Fault::Named(FileKind::Wide)),
+    }
+}
+
+/// The bound that a word spells: a decimal, or none above or below. `Number` where the word is neither, `Wide` where the
+/// decimal doesn't fit and isn't infinite.
+pub fn read_limit(word: &[u8]) -> Result<BoundValue, Fault<FileKind>>
+    ensures judged { Follows (judge_limit word.now) result }
+    ensures value { IfOk result (λ v. v ≡ limit_value word.now) }
+{
+    match read_bound(word) {
         Ok(value) => Ok(value),
         Err(DecimalFault::NotANumber) => Err(Fault::Named(FileKind::Number)),
         Err(DecimalFault::TooWide) => Err(Fault::Named(FileKind::Wide)),
