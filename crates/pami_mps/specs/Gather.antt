@@ -1,5 +1,5 @@
--- What the lines of an MPS file give, by filters over the lines of each section.
-use Rattle.std.specs.Prelude.{ℕ, ◌%◌, Bool, true, false, List, [], ◌∷◌, ◌++◌, length, map, filter, fold, drop, Option, None, Some, if◌then◌else◌, nat_eq, codes}
+-- What the lines of an MPS file give for its rows, columns and costs, by filters over the lines of each section.
+use Rattle.std.specs.Prelude.{ℕ, ◌%◌, Bool, true, false, not, List, [], ◌∷◌, ◌++◌, length, map, filter, fold, drop, Option, None, Some, if◌then◌else◌, nat_eq, codes}
 use Rattle.std.specs.List.{flat_map, list_any}
 use Rattle.std.specs.Str.{bytes_eq}
 use Rattle.pami_algebra.specs.Fraction.{Fraction}
@@ -7,15 +7,57 @@ use Rattle.pami_algebra.specs.Operations.{neg_f}
 use Rattle.pami_frac.specs.declared.list.Bounds.{Bounds}
 use Rattle.pami_frac.specs.declared.list.Entry.{Entry}
 use Rattle.pami_frac.specs.Decimal.{decimal_value}
-use Rattle.pami_model.specs.declared.list.Row.{Row}
 use Rattle.pami_model.specs.declared.list.Column.{Column}
+use Rattle.pami_model.specs.declared.model.Sense.{Sense}
 use Rattle.pami_model.specs.declared.model.Sense.TheVariants as senses
-use Rattle.pami_model.specs.Draft.{Draft, zero, is_zero, new_row, nonnegative, place_of}
+use Rattle.pami_model.specs.Draft.{zero, is_zero, place_of}
 use Rattle.pami_mps.specs.declared.kind.RowKind.{RowKind}
 use Rattle.pami_mps.specs.declared.kind.RowKind.TheVariants.{Free, AtMost, AtLeast, Equal}
 use Rattle.pami_mps.specs.declared.kind.Section.{Section}
-use Rattle.pami_mps.specs.declared.kind.Section.TheVariants.{Start}
-use Rattle.pami_mps.specs.Line.{Line, placed, is_row_line, is_column_line, is_value_line}
+use Rattle.pami_mps.specs.declared.kind.Section.TheVariants.{SenseDue, Rows, Columns, Rhs, Ranges}
+use Rattle.pami_mps.specs.Line.{Line, section_of, given_by, is_in, is_end, rank}
+
+-- OBJSENSE
+
+abbrev pub sense_of : List ℕ → Option Sense
+sense_of word =
+    if bytes_eq word (codes "MAX") then Some senses.Max else
+    if bytes_eq word (codes "MAXIMIZE") then Some senses.Max else
+    if bytes_eq word (codes "MIN") then Some senses.Min else
+    if bytes_eq word (codes "MINIMIZE") then Some senses.Min else None
+
+-- a section line, or the data line where the sense is due
+abbrev pub is_sense_line : Section × Line → Bool
+is_sense_line p = if p.1.head then not (is_end p.0) else nat_eq (rank SenseDue) (rank p.0)
+
+-- the words that may be a sense: those behind the word OBJSENSE, or those of a data line
+abbrev pub goal_words : Option Section → List (List ℕ) → List (List ℕ)
+goal_words (Some SenseDue) others = others
+goal_words begins others = []
+
+abbrev pub behind_word : List (List ℕ) → List (List ℕ)
+behind_word [] = []
+behind_word (word ∷ others) = goal_words (section_of word) others
+
+abbrev pub sense_words : Line → List (List ℕ)
+sense_words l = if l.head then behind_word l.words else l.words
+
+abbrev pub sense_as : Option Sense → List Sense
+sense_as None = []
+sense_as (Some sense) = sense ∷ []
+
+abbrev pub sense_in : List (List ℕ) → List Sense
+sense_in [] = []
+sense_in (word ∷ []) = sense_as (sense_of word)
+sense_in (word ∷ other ∷ others) = []
+
+abbrev pub senses_of : List Line → List Sense
+senses_of ls = given_by is_sense_line (λ l. sense_in (sense_words l)) ls
+
+-- the one sense, which is Min where none is given
+abbrev pub sense_by : List Sense → Sense
+sense_by [] = senses.Min
+sense_by (sense ∷ others) = sense
 
 -- ROWS
 
@@ -55,11 +97,11 @@ free_in (kind ∷ name ∷ []) = free_as name (kind_of kind)
 free_in words = []
 
 abbrev pub rows_of : List Line → List Declared
-rows_of ls = flat_map (λ p. kept_in p.1.words) (filter is_row_line (placed Start ls))
+rows_of ls = given_by (is_in Rows) (λ l. kept_in l.words) ls
 
 -- the N rows; the first is the objective
 abbrev pub free_rows_of : List Line → List (List ℕ)
-free_rows_of ls = flat_map (λ p. free_in p.1.words) (filter is_row_line (placed Start ls))
+free_rows_of ls = given_by (is_in Rows) (λ l. free_in l.words) ls
 
 abbrev pub names_of : List Declared → List (List ℕ)
 names_of rows = map (λ (r : Declared). r.name) rows
@@ -98,7 +140,7 @@ pairs_in (c ∷ r ∷ v ∷ q ∷ w ∷ []) = pair c r v ∷ pair c q w ∷ []
 pairs_in words = []
 
 abbrev pub pairs_of : List Line → List Pair
-pairs_of ls = flat_map (λ p. pairs_in p.1.words) (filter is_column_line (placed Start ls))
+pairs_of ls = given_by (is_in Columns) (λ l. pairs_in l.words) ls
 
 -- each name once, in the order of the first places
 abbrev pub once : List (List ℕ) → List (List ℕ)
@@ -142,17 +184,15 @@ abbrev pub only_of : List Fraction → Fraction
 only_of [] = zero
 only_of (v ∷ vs) = v
 
--- the column of a name: the cost of its one pair on the objective, and its entries in the order of the lines
-abbrev pub column_of : Names → List Pair → List ℕ → Column
-column_of names pairs name = record {
+-- the column of a name with these bounds: the cost of its one pair on the objective, and its entries in the order of
+-- the lines
+abbrev pub column_of : Names → List Pair → Bounds → List ℕ → Column
+column_of names pairs bounds name = record {
   name = name;
   cost = only_of (flat_map (cost_in names) (filter (is_of name) pairs));
-  bounds = nonnegative;
+  bounds = bounds;
   entries = flat_map (entry_in names) (filter (is_of name) pairs);
 }
-
-abbrev pub columns_of : Names → List Pair → List Column
-columns_of names pairs = map (column_of names pairs) (column_names pairs)
 
 -- the places of a pair in a row of the model
 abbrev pub places_as : Option ℕ → Option Role → List (ℕ × ℕ)
@@ -178,20 +218,20 @@ abbrev pub costs_of : Names → List Pair → Option (List ℕ) → List Fractio
 costs_of names pairs None = []
 costs_of names pairs (Some name) = flat_map (cost_in names) (filter (is_of name) pairs)
 
-abbrev pub is_any : List Fraction → Bool
+abbrev pub is_any : {A : Type 0} → List A → Bool
 is_any [] = false
 is_any (v ∷ vs) = true
 
 abbrev pub has_cost : Names → List Pair → Bool
 has_cost names pairs = is_any (costs_of names pairs (last_name (column_names pairs)))
 
--- RHS
+-- RHS and RANGES
 
 -- an odd count of words has the name of a set in front
 abbrev pub without_set : List (List ℕ) → List (List ℕ)
 without_set words = if nat_eq (length words % 2) 1 then drop 1 words else words
 
--- the words of a right-hand side: the row and the value
+-- the words of a right-hand side or a range: the row and the value
 pub record Value : Type 0 where
   pub row : List ℕ
   pub value : List ℕ
@@ -205,67 +245,21 @@ values_in (r ∷ v ∷ q ∷ w ∷ []) = value_words r v ∷ value_words q w ∷
 values_in words = []
 
 abbrev pub values_of : List Line → List Value
-values_of ls = flat_map (λ p. values_in (without_set p.1.words)) (filter is_value_line (placed Start ls))
+values_of ls = given_by (is_in Rhs) (λ l. values_in (without_set l.words)) ls
 
--- the values given for a name
-abbrev pub given_for : List Value → List ℕ → List Fraction
-given_for values name = map (λ (v : Value). decimal_value v.value) (filter (λ (v : Value). bytes_eq v.row name) values)
+abbrev pub ranges_of : List Line → List Value
+ranges_of ls = given_by (is_in Ranges) (λ l. values_in (without_set l.words)) ls
 
--- the bounds of a row by its type and its right-hand side
-abbrev pub bounds_of : RowKind → Fraction → Bounds
-bounds_of Free b = record { low = None; high = None }
-bounds_of AtMost b = record { low = None; high = Some b }
-bounds_of AtLeast b = record { low = Some b; high = None }
-bounds_of Equal b = record { low = Some b; high = Some b }
+-- the words given for a name
+abbrev pub given_for : List Value → List ℕ → List (List ℕ)
+given_for values name = map (λ (v : Value). v.value) (filter (λ (v : Value). bytes_eq v.row name) values)
 
--- the row of a declaration: bounds by the type and the one right-hand side, which is 0 where none is given
-abbrev pub row_of : List Value → Declared → Row
-row_of values r = new_row r.name (bounds_of r.kind (only_of (given_for values r.name)))
-
-abbrev pub goal_values : List (List ℕ) → List Value → List Fraction
+-- the right-hand sides of the objective, as numbers
+abbrev pub goal_values : List (List ℕ) → List Value → List (List ℕ)
 goal_values [] values = []
 goal_values (objective ∷ free) values = given_for values objective
 
 -- minus the right-hand side of the objective
-abbrev pub constant_by : List Fraction → Fraction
+abbrev pub constant_by : List (List ℕ) → Fraction
 constant_by [] = zero
-constant_by (v ∷ vs) = neg_f v
-
--- all together
-
-abbrev pub names_by : List Declared → List (List ℕ) → Names
-names_by rows free = record { kept = names_of rows; free = free }
-
--- what a builder has been given by these rows, pairs and right-hand sides
-abbrev pub draft_of : List Declared → List (List ℕ) → List Pair → List Value → Draft
-draft_of rows free pairs values = record {
-  sense = senses.Min;
-  constant = constant_by (goal_values free values);
-  rows = map (row_of values) rows;
-  columns = columns_of (names_by rows free) pairs;
-  pairs = places_of (names_by rows free) pairs;
-}
-
--- what the lines before a line have given
-pub record Seen : Type 0 where
-  pub section : Section
-  pub kinds : List RowKind  -- the type of each row of the model
-  pub free : List (List ℕ)  -- the N rows
-  pub draft : Draft  -- rows, columns, costs and entries
-  pub has_cost : Bool  -- whether the last column has a cost
-  pub given : List Bool  -- whether each row of the model has a right-hand side
-  pub has_constant : Bool  -- whether the objective has one
-
-abbrev pub seen_by : Section → List Declared → List (List ℕ) → List Pair → List Value → Seen
-seen_by section rows free pairs values = record {
-  section = section;
-  kinds = map (λ (r : Declared). r.kind) rows;
-  free = free;
-  draft = draft_of rows free pairs values;
-  has_cost = has_cost (names_by rows free) pairs;
-  given = map (λ (r : Declared). is_any (given_for values r.name)) rows;
-  has_constant = is_any (goal_values free values);
-}
-
-abbrev pub seen : List Line → Seen
-seen ls = seen_by (Rattle.pami_mps.specs.Line.section_at ls) (rows_of ls) (free_rows_of ls) (pairs_of ls) (values_of ls)
+constant_by (v ∷ vs) = neg_f (decimal_value v)

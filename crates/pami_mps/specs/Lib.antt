@@ -1,5 +1,8 @@
 pub mod Line
 pub mod Gather
+pub mod Rows
+pub mod Limits
+pub mod Seen
 pub mod After
 pub mod Judge
 pub mod Mps

@@ -1,10 +1,12 @@
-//! The reader of MPS files: the model that the bytes are a text of, or that there is none.
+//! The reader of MPS files: the model that the bytes are a text of, or their first fault.
 //!
 //! Stands on `pami_model`, whose builder takes the rows, columns and entries, and on `pami_edge`, which cuts the
-//! lines. The layers above may rely on `read_mps` answering a model exactly where the bytes are an MPS text, and on
-//! one text having one model; what an MPS text is stands in `specs/Mps.antt`, rule by rule.
+//! lines. The layers above may rely on `read_mps` answering a model of the text or its first fault, on one text having
+//! one model or one first fault, and not both; what an MPS text is, and its first fault, stands in `specs/Mps.antt`,
+//! rule by rule.
 #![tactic(auto)]
 
+mod bounds;
 mod kind;
 mod read;
 mod reader;
@@ -13,5 +15,5 @@ mod tests;
 mod text;
 mod word;
 
-pub use kind::{NotAccepted, RowKind, Section};
-pub use read::{one_model, read_mps};
+pub use kind::{LimitKind, RowKind, Section, Sides, Told};
+pub use read::{model_or_fault, not_both, one_fault, one_model, read_mps};

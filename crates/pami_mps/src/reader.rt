@@ -3,82 +3,79 @@
 ghost use Rattle.std.specs.Prelude.{◌≡◌, ◌<◌, ◌∷◌, [], false, length, map, Some, IfOk, OnOk, if◌then◌else◌};
 ghost use Rattle.std.specs.Option.{option_map};
 ghost use Rattle.pami_frac.specs.Answers.{Follows};
-ghost use Rattle.pami_mps.specs.Line.{named, is_end, line_of};
-ghost use Rattle.pami_mps.specs.Gather.{bounds_of as the_bounds, is_free as is_free_kind, without_set, Kept, Objective};
-ghost use Rattle.pami_mps.specs.After.{with_row, after_row, after_column, after_values, after_words, after, with_column, role_for, with_entry, with_pair, with_right, with_value};
-ghost use Rattle.pami_mps.specs.Judge.{judge_free, judge_kept, judge_row, judge_column_name, judge_entry, judge_pair, judge_column, judge_right, judge_value, judge_values, judge_head, judge_data, judge};
-ghost use Rattle.pami_mps.specs.Reader.{seen_by_reader, nothing_seen, section_begun, IsEven, role_told};
+ghost use Rattle.pami_mps.specs.Line.{is_end, line_of};
+ghost use Rattle.pami_mps.specs.Gather.{is_free as is_free_kind, without_set, Kept, Objective};
+ghost use Rattle.pami_frac.specs.declared.bound.BoundValue.TheVariants.{Finite};
+ghost use Rattle.pami_model.specs.Draft.{zero};
+ghost use Rattle.pami_model.specs.Number.{limit_value};
+ghost use Rattle.pami_mps.specs.Limits.{limit, effect as the_effect, unstated as nothing_stated, unvalued_in, valued_in};
+ghost use Rattle.pami_mps.specs.After.{after, after_column, after_goal, after_head, after_limits, after_ranges, after_row, after_sense, after_values, after_words, role_for, sides_at, with_column, with_constant, with_entry, with_limit, with_limits, with_pair, with_range as with_the_range, with_ranged, with_right, with_row, with_sides, with_told, with_value};
+ghost use Rattle.pami_mps.specs.Judge.{judge, judge_column, judge_column_name, judge_data, judge_entry, judge_free, judge_goal, judge_head, judge_kept, judge_known, judge_limit_kind, judge_limited, judge_limits, judge_pair, judge_range, judge_ranged, judge_ranges, judge_right, judge_row, judge_sense_line, judge_unvalued, judge_value, judge_valued, judge_values, judge_whole_kind};
+ghost use Rattle.pami_mps.specs.Reader.{seen_by_reader, nothing_seen, IsEven, role_told};
 
-use crate::kind::{RowKind, RowRole, Section};
+use crate::bounds::{
+    effect, has_value, is_bad_limit, is_bad_right, plain_bounds, right_bounds, with_range,
+};
+use crate::kind::{LimitKind, RowKind, RowRole, Section, Sides, Told};
 use crate::text::{has_control, is_comment, is_head, words};
-use crate::word::{follows, is_marker, kind_of, section_of};
+use crate::word::{follows, is_marker, is_whole_kind, kind_of, limit_kind_of, section_of, sense_of};
 use indexmap::IndexSet;
-use pami_frac::{Bounds, Fault, Frac, OutOfMemory};
-use pami_model::{Builder, FileKind, NAME_LIMIT, Sense, file_fault, is_infinite, read_number};
+use pami_frac::{BoundValue, Bounds, Fault, Frac, OutOfMemory};
+use pami_model::{Builder, FileKind, NAME_LIMIT, file_fault, read_limit, read_number};
 use std::alloc::Global;
 
 /// What a reader has gathered of the lines so far.
 #[derive(Drop)]
 pub(crate) struct Reader {
     pub(crate) section: Section,
-    /// The type of each row of the model.
-    pub(crate) kinds: Vec<RowKind>,
     /// The names of the N rows; the first is the objective.
     pub(crate) free: IndexSet<Vec<u8>>,
+    /// What the lines have told of each row of the model.
+    pub(crate) told: Vec<Told>,
+    /// The bounds of each column.
+    pub(crate) sides: Vec<Sides>,
     pub(crate) builder: Builder,
     /// Whether the last column has a cost.
     pub(crate) has_cost: bool,
-    /// Whether each row of the model has a right-hand side.
-    pub(crate) given: Vec<bool>,
-    /// Whether the objective has one.
+    /// Whether the objective has a right-hand side.
     pub(crate) has_constant: bool,
 }
 
-/// The bounds of a row by its type and its right-hand side.
-fn bounds_of(kind: RowKind, value: Frac) -> Bounds
-    ensures { result ≡ the_bounds kind value }
+/// The bounds of a column that no line of BOUNDS names.
+fn unstated() -> Sides
+    ensures { result ≡ nothing_stated }
 {
-    match kind {
-        RowKind::Free => Bounds {
-            low: None,
+    Sides {
+        bounds: Bounds {
+            low: Some(Frac::zero()),
             high: None,
         },
-        RowKind::AtMost => Bounds {
-            low: None,
-            high: Some(value),
-        },
-        RowKind::AtLeast => Bounds {
-            low: Some(value),
-            high: None,
-        },
-        RowKind::Equal => Bounds {
-            low: Some(value),
-            high: Some(value),
-        },
+        stated: false,
     }
 }
 
-/// A section line: the section that it begins.
-fn take_head(section: Section, words: &[&[u8]]) -> Result<Section, Fault<FileKind>>
-    ensures judged { Follows (judge_head section (map (λ w. w.now) words.now)) result }
-    ensures named { IfOk result (λ s. s ≡ named section (map (λ w. w.now) words.now)) }
+/// The words behind the name of a set.
+fn pairs_of<'a>(words: &'a [&'a [u8]]) -> &'a [&'a [u8]]
+    ensures { map (λ w. w.now) result.now ≡ without_set (map (λ w. w.now) words.now) }
 {
-    match words {
-        [] => Err(Fault::Named(FileKind::Section)),
-        [word, others @ ..] => {
-            let next = match section_of(word) {
-                Some(next) => next,
-                None => return Err(Fault::Named(FileKind::Section)),
-            };
-            if !follows(section, next) {
-                return Err(Fault::Named(FileKind::Order));
-            }
-            if next != Section::Name && !others.is_empty() {
-                return Err(Fault::Named(FileKind::Words));
-            }
-            Ok(next)
-        }
+    if words.len() % 2 == 1 {
+        let (_, pairs) = words.split_at(1);
+        return pairs;
     }
+    words
+}
+
+/// Whether the count and the type of a line of BOUNDS are those of a model without integers.
+fn check_limit(kind: &[u8], words: &[&[u8]]) -> Result<(), Fault<FileKind>>
+    ensures { Follows (judge_whole_kind kind.now (map (λ w. w.now) words.now)) result }
+{
+    if words.is_empty() || words.len() > 3 {
+        return Err(Fault::Named(FileKind::Words));
+    }
+    if is_whole_kind(kind) {
+        return Err(Fault::Named(FileKind::Integer));
+    }
+    Ok(())
 }
 
 impl Reader {
@@ -88,13 +85,83 @@ impl Reader {
     {
         Ok(Reader {
             section: Section::Start,
-            kinds: Vec::new(alloc),
             free: IndexSet::new(alloc),
+            told: Vec::new(alloc),
+            sides: Vec::new(alloc),
             builder: Builder::new(alloc)?,
             has_cost: false,
-            given: Vec::new(alloc),
             has_constant: false,
         })
+    }
+
+    /// A word that is the sense.
+    fn take_sense(&mut self, word: &[u8]) -> Result<(), Fault<FileKind>>
+        ensures judged { Follows (judge_sense_line (word.now ∷ [])) result }
+        ensures grown { OnOk result (seen_by_reader self.new ≡ after_goal (seen_by_reader self.old) (word.now ∷ [])) }
+    {
+        match sense_of(word) {
+            None => Err(Fault::Named(FileKind::Sense)),
+            Some(sense) => {
+                let constant = self.builder.constant();
+                self.builder.set_goal(sense, constant);
+                self.section = Section::SenseGiven;
+                Ok(())
+            }
+        }
+    }
+
+    /// The words behind OBJSENSE on its line.
+    fn take_goal(&mut self, others: &[&[u8]]) -> Result<(), Fault<FileKind>>
+        ensures judged { Follows (judge_goal (map (λ w. w.now) others.now)) result }
+        ensures grown { OnOk result (seen_by_reader self.new ≡ after_goal (seen_by_reader self.old) (map (λ w. w.now) others.now)) }
+    {
+        match others {
+            [] => {
+                self.section = Section::SenseDue;
+                Ok(())
+            }
+            [word] => self.take_sense(word),
+            _ => Err(Fault::Named(FileKind::Words)),
+        }
+    }
+
+    /// The data line where the sense is due.
+    fn take_sense_line(&mut self, words: &[&[u8]]) -> Result<(), Fault<FileKind>>
+        requires { 0 < length words.now }
+        ensures judged { Follows (judge_sense_line (map (λ w. w.now) words.now)) result }
+        ensures grown { OnOk result (seen_by_reader self.new ≡ after_sense (seen_by_reader self.old) (map (λ w. w.now) words.now)) }
+    {
+        match words {
+            [word] => self.take_sense(word),
+            _ => Err(Fault::Named(FileKind::Words)),
+        }
+    }
+
+    /// A section line.
+    fn take_head(&mut self, words: &[&[u8]]) -> Result<(), Fault<FileKind>>
+        ensures judged { Follows (judge_head self.old.section (map (λ w. w.now) words.now)) result }
+        ensures grown { OnOk result (seen_by_reader self.new ≡ after_head (seen_by_reader self.old) (map (λ w. w.now) words.now)) }
+    {
+        match words {
+            [] => Err(Fault::Named(FileKind::Section)),
+            [word, others @ ..] => {
+                let next = match section_of(word) {
+                    Some(next) => next,
+                    None => return Err(Fault::Named(FileKind::Section)),
+                };
+                if !follows(self.section, next) {
+                    return Err(Fault::Named(FileKind::Order));
+                }
+                if next == Section::SenseDue {
+                    return self.take_goal(others);
+                }
+                if next != Section::Name && !others.is_empty() {
+                    return Err(Fault::Named(FileKind::Words));
+                }
+                self.section = next;
+                Ok(())
+            }
+        }
     }
 
     /// What a name stands for among the rows.
@@ -141,11 +208,15 @@ impl Reader {
         if self.free.contains(name) {
             return Err(Fault::Named(FileKind::DuplicateRow));
         }
-        if let Err(fault) = self.builder.add_row(name, bounds_of(kind, Frac::zero())) {
+        if let Err(fault) = self.builder.add_row(name, plain_bounds(kind, Some(Frac::zero()))) {
             return Err(file_fault(fault));
         }
-        self.kinds.push(kind)?;
-        self.given.push(false)?;
+        self.told.push(Told {
+            kind,
+            right: BoundValue::Finite(Frac::zero()),
+            has_right: false,
+            has_range: false,
+        })?;
         Ok(())
     }
 
@@ -179,13 +250,12 @@ impl Reader {
                 return Ok(());
             }
         }
-        match self.builder.add_column(name) {
-            Ok(_) => {
-                self.has_cost = false;
-                Ok(())
-            }
-            Err(fault) => Err(file_fault(fault)),
+        if let Err(fault) = self.builder.add_column(name) {
+            return Err(file_fault(fault));
         }
+        self.sides.push(unstated())?;
+        self.has_cost = false;
+        Ok(())
     }
 
     /// An entry of the last column.
@@ -267,36 +337,33 @@ impl Reader {
     }
 
     /// The right-hand side of a row of the model.
-    fn set_right(&mut self, row: u32, value: Frac) -> Result<(), Fault<FileKind>>
+    fn set_right(&mut self, row: u32, value: BoundValue) -> Result<(), Fault<FileKind>>
         requires even { IsEven (seen_by_reader self.old) }
         requires row_in { row < length self.old.builder.rows }
-        ensures judged { Follows (judge_right (seen_by_reader self.old) (Kept row) value) result }
-        ensures grown { OnOk result (seen_by_reader self.new ≡ with_right (Some (Kept row)) value (seen_by_reader self.old)) }
+        ensures judged { Follows (judge_right (seen_by_reader self.old) row value) result }
+        ensures grown { OnOk result (seen_by_reader self.new ≡ with_right row value (seen_by_reader self.old)) }
     {
-        if self.given[row as usize] {
+        let told = &mut self.told[row as usize];
+        if told.has_right {
             return Err(Fault::Named(FileKind::DuplicateEntry));
         }
-        if is_infinite(&value) {
+        if is_bad_right(told.kind, &value) {
             return Err(Fault::Named(FileKind::Infinite));
         }
-        let kind = self.kinds[row as usize];
-        self.builder.set_row_bounds(row, bounds_of(kind, value));
-        self.given[row as usize] = true;
+        let bounds = right_bounds(told.kind, &value);
+        told.right = value;
+        told.has_right = true;
+        self.builder.set_row_bounds(row, bounds);
         Ok(())
     }
 
     /// The right-hand side of the objective: minus the constant.
-    fn set_constant(&mut self, value: Frac) -> Result<(), Fault<FileKind>>
-        requires { self.old.builder.sense ≡ Sense.Min }
-        ensures judged { Follows (judge_right (seen_by_reader self.old) Objective value) result }
-        ensures grown { OnOk result (seen_by_reader self.new ≡ with_right (Some Objective) value (seen_by_reader self.old)) }
+    fn set_constant(&mut self, value: Frac)
+        ensures { seen_by_reader self.new ≡ with_constant value (seen_by_reader self.old) }
     {
-        if self.has_constant {
-            return Err(Fault::Named(FileKind::DuplicateEntry));
-        }
-        self.builder.set_goal(Sense::Min, value.negate());
+        let sense = self.builder.sense();
+        self.builder.set_goal(sense, value.negate());
         self.has_constant = true;
-        Ok(())
     }
 
     /// A right-hand side of a line of RHS.
@@ -305,18 +372,22 @@ impl Reader {
         ensures judged { Follows (judge_value (seen_by_reader self.old) row.now value.now) result }
         ensures grown { OnOk result (seen_by_reader self.new ≡ with_value row.now value.now (seen_by_reader self.old)) }
     {
-        let role = match self.role_of(row) {
-            Some(role) => role,
-            None => return Err(Fault::Named(FileKind::UnknownRow)),
-        };
-        let value = read_number(value)?;
-        match role {
-            RowRole::Kept(row) => self.set_right(row, value),
-            RowRole::Objective => self.set_constant(value),
-            RowRole::Dropped => {
-                if is_infinite(&value) {
-                    return Err(Fault::Named(FileKind::Infinite));
+        match self.role_of(row) {
+            None => Err(Fault::Named(FileKind::UnknownRow)),
+            Some(RowRole::Kept(row)) => {
+                let value = read_limit(value)?;
+                self.set_right(row, value)
+            }
+            Some(RowRole::Objective) => {
+                let value = read_number(value)?;
+                if self.has_constant {
+                    return Err(Fault::Named(FileKind::DuplicateEntry));
                 }
+                self.set_constant(value);
+                Ok(())
+            }
+            Some(RowRole::Dropped) => {
+                read_limit(value)?;
                 Ok(())
             }
         }
@@ -338,6 +409,163 @@ impl Reader {
         }
     }
 
+    /// The range of a row of the model.
+    fn set_range(&mut self, row: u32, range: BoundValue) -> Result<(), Fault<FileKind>>
+        requires even { IsEven (seen_by_reader self.old) }
+        requires row_in { row < length self.old.builder.rows }
+        ensures judged { Follows (judge_range (seen_by_reader self.old) row range) result }
+        ensures grown { OnOk result (seen_by_reader self.new ≡ with_the_range row range (seen_by_reader self.old)) }
+    {
+        let told = &mut self.told[row as usize];
+        if told.has_range {
+            return Err(Fault::Named(FileKind::DuplicateEntry));
+        }
+        let bounds = with_range(told.kind, &told.right, &range)?;
+        told.has_range = true;
+        self.builder.set_row_bounds(row, bounds);
+        Ok(())
+    }
+
+    /// A range of a line of RANGES.
+    fn take_range(&mut self, row: &[u8], value: &[u8]) -> Result<(), Fault<FileKind>>
+        requires { IsEven (seen_by_reader self.old) }
+        ensures judged { Follows (judge_ranged (seen_by_reader self.old) row.now value.now) result }
+        ensures grown { OnOk result (seen_by_reader self.new ≡ with_ranged row.now value.now (seen_by_reader self.old)) }
+    {
+        match self.role_of(row) {
+            None => Err(Fault::Named(FileKind::UnknownRow)),
+            Some(RowRole::Kept(row)) => {
+                let range = read_limit(value)?;
+                self.set_range(row, range)
+            }
+            Some(RowRole::Objective) => Err(Fault::Named(FileKind::RangeOnN)),
+            Some(RowRole::Dropped) => Err(Fault::Named(FileKind::RangeOnN)),
+        }
+    }
+
+    /// A line of RANGES.
+    fn take_ranges(&mut self, words: &[&[u8]]) -> Result<(), Fault<FileKind>>
+        requires { IsEven (seen_by_reader self.old) }
+        ensures judged { Follows (judge_ranges (seen_by_reader self.old) (without_set (map (λ w. w.now) words.now))) result }
+        ensures grown { OnOk result (seen_by_reader self.new ≡ after_ranges (seen_by_reader self.old) (without_set (map (λ w. w.now) words.now))) }
+    {
+        match pairs_of(words) {
+            [row, value] => self.take_range(row, value),
+            [row, value, other_row, other_value] => {
+                self.take_range(row, value)?;
+                self.take_range(other_row, other_value)
+            }
+            _ => Err(Fault::Named(FileKind::Words)),
+        }
+    }
+
+    /// What a line of BOUNDS states of the column at this place.
+    fn set_limit(&mut self, column: u32, kind: LimitKind, value: BoundValue)
+        requires even { IsEven (seen_by_reader self.old) }
+        requires column_in { column < length self.old.builder.columns }
+        ensures { seen_by_reader self.new ≡ with_sides column (the_effect kind value (sides_at self.old.sides.items column)) (seen_by_reader self.old) }
+    {
+        let sides = &mut self.sides[column as usize];
+        *sides = effect(kind, &value, sides);
+        let bounds = sides.bounds;
+        self.builder.set_column_bounds(column, bounds);
+    }
+
+    /// A line of BOUNDS with a value.
+    fn take_limit(
+        &mut self,
+        kind: LimitKind,
+        column: &[u8],
+        value: &[u8],
+    ) -> Result<(), Fault<FileKind>>
+        requires { IsEven (seen_by_reader self.old) }
+        ensures judged { Follows (judge_limited (seen_by_reader self.old) kind column.now value.now) result }
+        ensures grown { OnOk result (seen_by_reader self.new ≡ with_limit (limit column.now kind (limit_value value.now)) (seen_by_reader self.old)) }
+    {
+        let column = match self.builder.find_column(column) {
+            Some(column) => column,
+            None => return Err(Fault::Named(FileKind::UnknownColumn)),
+        };
+        let value = read_limit(value)?;
+        if is_bad_limit(kind, &value) {
+            return Err(Fault::Named(FileKind::Infinite));
+        }
+        self.set_limit(column, kind, value);
+        Ok(())
+    }
+
+    /// A line of BOUNDS without a value.
+    fn take_mark(&mut self, kind: LimitKind, column: &[u8]) -> Result<(), Fault<FileKind>>
+        requires { IsEven (seen_by_reader self.old) }
+        ensures judged { Follows (judge_known (seen_by_reader self.old) column.now) result }
+        ensures grown { OnOk result (seen_by_reader self.new ≡ with_limit (limit column.now kind (Finite zero)) (seen_by_reader self.old)) }
+    {
+        match self.builder.find_column(column) {
+            Some(column) => {
+                self.set_limit(column, kind, BoundValue::Finite(Frac::zero()));
+                Ok(())
+            }
+            None => Err(Fault::Named(FileKind::UnknownColumn)),
+        }
+    }
+
+    /// The words behind a type with a value.
+    fn take_valued(&mut self, kind: LimitKind, words: &[&[u8]]) -> Result<(), Fault<FileKind>>
+        requires { IsEven (seen_by_reader self.old) }
+        ensures judged { Follows (judge_valued (seen_by_reader self.old) kind (map (λ w. w.now) words.now)) result }
+        ensures grown { OnOk result (seen_by_reader self.new ≡ with_limits (valued_in kind (map (λ w. w.now) words.now)) (seen_by_reader self.old)) }
+    {
+        match words {
+            [column, value] => self.take_limit(kind, column, value),
+            [_, column, value] => self.take_limit(kind, column, value),
+            _ => Err(Fault::Named(FileKind::Words)),
+        }
+    }
+
+    /// The words behind a type without a value.
+    fn take_unvalued(&mut self, kind: LimitKind, words: &[&[u8]]) -> Result<(), Fault<FileKind>>
+        requires { IsEven (seen_by_reader self.old) }
+        ensures judged { Follows (judge_unvalued (seen_by_reader self.old) (map (λ w. w.now) words.now)) result }
+        ensures grown { OnOk result (seen_by_reader self.new ≡ with_limits (unvalued_in kind (map (λ w. w.now) words.now)) (seen_by_reader self.old)) }
+    {
+        match words {
+            [column] => self.take_mark(kind, column),
+            [_, column] => self.take_mark(kind, column),
+            [_, column, _] => self.take_mark(kind, column),
+            _ => Err(Fault::Named(FileKind::Words)),
+        }
+    }
+
+    /// A line of BOUNDS, by its type and the words behind it.
+    fn take_typed(&mut self, kind: &[u8], words: &[&[u8]]) -> Result<(), Fault<FileKind>>
+        requires { IsEven (seen_by_reader self.old) }
+        ensures judged { Follows (judge_limits (seen_by_reader self.old) (kind.now ∷ map (λ w. w.now) words.now)) result }
+        ensures grown { OnOk result (seen_by_reader self.new ≡ after_limits (seen_by_reader self.old) (kind.now ∷ map (λ w. w.now) words.now)) }
+    {
+        check_limit(kind, words)?;
+        match limit_kind_of(kind) {
+            Some(kind) => {
+                if has_value(kind) {
+                    return self.take_valued(kind, words);
+                }
+                self.take_unvalued(kind, words)
+            }
+            None => Err(Fault::Named(FileKind::BoundType)),
+        }
+    }
+
+    /// A line of BOUNDS.
+    fn take_limits(&mut self, words: &[&[u8]]) -> Result<(), Fault<FileKind>>
+        requires { IsEven (seen_by_reader self.old) }
+        ensures judged { Follows (judge_limits (seen_by_reader self.old) (map (λ w. w.now) words.now)) result }
+        ensures grown { OnOk result (seen_by_reader self.new ≡ after_limits (seen_by_reader self.old) (map (λ w. w.now) words.now)) }
+    {
+        match words {
+            [] => Err(Fault::Named(FileKind::Words)),
+            [kind, others @ ..] => self.take_typed(kind, others),
+        }
+    }
+
     /// A data line.
     fn take_data(&mut self, alloc: Global, words: &[&[u8]]) -> Result<(), Fault<FileKind>>
         requires { IsEven (seen_by_reader self.old) }
@@ -348,11 +576,15 @@ impl Reader {
             return Ok(());
         }
         match self.section {
+            Section::SenseDue => self.take_sense_line(words),
             Section::Rows => self.take_row(alloc, words),
             Section::Columns => self.take_column(words),
             Section::Rhs => self.take_values(words),
+            Section::Ranges => self.take_ranges(words),
+            Section::Limits => self.take_limits(words),
             Section::Start => Err(Fault::Named(FileKind::Order)),
             Section::Name => Err(Fault::Named(FileKind::Order)),
+            Section::SenseGiven => Err(Fault::Named(FileKind::Order)),
             Section::End => Ok(()),
         }
     }
@@ -366,11 +598,10 @@ impl Reader {
     ) -> Result<(), Fault<FileKind>>
         requires { IsEven (seen_by_reader self.old) }
         ensures judged { Follows (if head then judge_head self.old.section (map (λ w. w.now) words.now) else judge_data (seen_by_reader self.old) (map (λ w. w.now) words.now)) result }
-        ensures grown { OnOk result (seen_by_reader self.new ≡ (if head then section_begun (map (λ w. w.now) words.now) (seen_by_reader self.old) else after_words self.old.section (seen_by_reader self.old) (map (λ w. w.now) words.now))) }
+        ensures grown { OnOk result (seen_by_reader self.new ≡ (if head then after_head (seen_by_reader self.old) (map (λ w. w.now) words.now) else after_words self.old.section (seen_by_reader self.old) (map (λ w. w.now) words.now))) }
     {
         if head {
-            self.section = take_head(self.section, words)?;
-            return Ok(());
+            return self.take_head(words);
         }
         self.take_data(alloc, words)
     }
@@ -391,15 +622,4 @@ impl Reader {
         let found = words(alloc, line)?;
         self.take_words(alloc, is_head(line), found.as_slice())
     }
-}
-
-/// The words behind the name of a set.
-fn pairs_of<'a>(words: &'a [&'a [u8]]) -> &'a [&'a [u8]]
-    ensures { map (λ w. w.now) result.now ≡ without_set (map (λ w. w.now) words.now) }
-{
-    if words.len() % 2 == 1 {
-        let (_, pairs) = words.split_at(1);
-        return pairs;
-    }
-    words
 }
