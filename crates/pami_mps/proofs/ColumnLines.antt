@@ -7,7 +7,7 @@ use Rattle.pami_model.specs.declared.fault.FileKind.{FileKind}
 use Rattle.pami_model.specs.declared.fault.FileKind.TheVariants as kinds
 use Rattle.pami_model.specs.Judgement.{first_of, wrong_if}
 use Rattle.pami_model.proofs.Judging.{later, sooner, first_of-assoc}
-use Rattle.pami_mps.specs.Gather.{Seen}
+use Rattle.pami_mps.specs.Seen.{Seen}
 use Rattle.pami_mps.specs.After.{after_column, with_column, with_pair}
 use Rattle.pami_mps.specs.Judge.{is_marker, judge_column_name, judge_pair, judge_column}
 

@@ -3,14 +3,14 @@ pub mod ColumnLines
 pub mod Columns
 pub mod Counts
 pub mod Keys
+pub mod Limited
 pub mod Lines
 pub mod Names
 pub mod Places
 pub mod RowLines
 pub mod Rows
 pub mod Seen
-pub mod Shaped
-pub mod ValueLines
+pub mod ToldLines
 pub mod Values
 pub mod Whole
 pub mod Words

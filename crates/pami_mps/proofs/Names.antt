@@ -1,14 +1,18 @@
 -- Names once, and what the rows and columns of a draft are called.
 use Rattle.std.proofs.Common.{◌≡◌, ℕ, Bool, true, false, cond, ◌||◌, List, [], ◌∷◌, ◌++◌, map, filter, fold, Some, refl, sym, ap, subst, ◌∙◌}
-use Rattle.std.specs.List.{list_any}
+use Rattle.std.specs.List.{list_any, IsDistinct}
 use Rattle.std.specs.Str.{bytes_eq}
 use Rattle.std.proofs.lemmas.Bool.{or_parts}
 use Rattle.std.proofs.lemmas.List.{map-append}
 use Rattle.std.proofs.lemmas.List.Elements.{filter-append}
 use Rattle.std.proofs.lemmas.List.Sums.{fold-append}
 use Rattle.std.proofs.lemmas.List.Folds.{list_any-append}
+use Rattle.std.proofs.lemmas.Map.Keys.{IsDistinct-push}
+use Rattle.std.proofs.lemmas.Cmp.{nat_list_eq_equiv}
 use Rattle.pami_model.specs.Rules.{names_of_rows, names_of_columns}
-use Rattle.pami_mps.specs.Gather.{Declared, Pair, Value, Names, once, column_names, column_of, row_of, names_of, is_of, last_name}
+use Rattle.pami_mps.specs.Gather.{Declared, Pair, Value, Names, once, column_names, column_of, names_of, is_of, last_name}
+use Rattle.pami_mps.specs.Rows.{row_of}
+use Rattle.pami_mps.specs.Limits.{Limit, sides_of}
 use Rattle.pami_mps.proofs.Changed.{same, itself, turned}
 
 -- one name more
@@ -61,6 +65,19 @@ module _ (c : List ℕ) where
   pub any_once : (ns : List (List ℕ)) → list_any (bytes_eq c) (once ns) ≡ list_any (bytes_eq c) ns
   any_once ns = any_from ns []
 
+-- names that stand once are distinct
+distinct_from : (ns seen : List (List ℕ)) → IsDistinct bytes_eq seen → IsDistinct bytes_eq (fold step seen ns)
+distinct_from [] seen d = d
+distinct_from (n ∷ ns) seen d = distinct_from ns (step seen n) (by (list_any (bytes_eq n) seen) refl)
+  where
+    by : (b : Bool) → list_any (bytes_eq n) seen ≡ b → IsDistinct bytes_eq (cond b seen (seen ++ n ∷ []))
+    by true e = d
+    by false e = IsDistinct-push nat_list_eq_equiv seen n d e
+
+pub once_distinct : (ns : List (List ℕ)) → IsDistinct bytes_eq (once ns)
+unfolding IsDistinct
+once_distinct ns = distinct_from ns [] tt
+
 -- the pairs of a name
 
 pub filter_other : (n : List ℕ) (pairs : List Pair) (p : Pair) → bytes_eq p.column n ≡ false → filter (is_of n) (pairs ++ p ∷ []) ≡ filter (is_of n) pairs
@@ -86,13 +103,13 @@ filter_new n pairs h = filter_none n pairs (sym (any_once n (map (λ (p : Pair).
 
 -- names of what is made of names
 
-pub rows_back : (values : List Value) (rows : List Declared) → names_of_rows (map (row_of values) rows) ≡ names_of rows
-rows_back values [] = refl
-rows_back values (r ∷ rows) = ap (λ (ns : List (List ℕ)). r.name ∷ ns) (rows_back values rows)
+pub rows_back : (values ranges : List Value) (rows : List Declared) → names_of_rows (map (row_of values ranges) rows) ≡ names_of rows
+rows_back values ranges [] = refl
+rows_back values ranges (r ∷ rows) = ap (λ (ns : List (List ℕ)). r.name ∷ ns) (rows_back values ranges rows)
 
-pub columns_back : (names : Names) (pairs : List Pair) (ns : List (List ℕ)) → names_of_columns (map (column_of names pairs) ns) ≡ ns
-columns_back names pairs [] = refl
-columns_back names pairs (n ∷ ns) = ap (λ (ms : List (List ℕ)). n ∷ ms) (columns_back names pairs ns)
+pub columns_back : (names : Names) (pairs : List Pair) (limits : List Limit) (ns : List (List ℕ)) → names_of_columns (map (λ n. column_of names pairs (sides_of limits n).bounds n) ns) ≡ ns
+columns_back names pairs limits [] = refl
+columns_back names pairs limits (n ∷ ns) = ap (λ (ms : List (List ℕ)). n ∷ ms) (columns_back names pairs limits ns)
 
 pub last_name_is : (ms : List (List ℕ)) (c : List ℕ) → last_name (ms ++ c ∷ []) ≡ Some c
 last_name_is [] c = refl

@@ -13,7 +13,8 @@ use Rattle.pami_model.specs.Draft.{place_of, row_fault}
 use Rattle.pami_model.specs.Judgement.{first_of, wrong_if}
 use Rattle.pami_model.specs.Refusal.{judge_build, widened}
 use Rattle.pami_model.proofs.Judging.{refused_by, followed}
-use Rattle.pami_mps.specs.Gather.{Seen, role_by, free_role}
+use Rattle.pami_mps.specs.Seen.{Seen}
+use Rattle.pami_mps.specs.Gather.{role_by, free_role}
 use Rattle.pami_mps.specs.After.{role_for}
 use Rattle.pami_mps.specs.Judge.{judge_free, judge_kept}
 

@@ -13,7 +13,6 @@ use Rattle.pami_model.specs.declared.fault.FileKind.TheVariants as kinds
 use Rattle.pami_model.specs.declared.fault.BuildFault.{BuildFault}
 use Rattle.pami_model.specs.declared.fault.BuildFault.TheVariants as faults
 use Rattle.pami_model.specs.declared.list.Row.{Row}
-use Rattle.pami_model.specs.declared.model.Sense.TheVariants as senses
 use Rattle.pami_model.specs.Rules.{names_of_rows, name_limit}
 use Rattle.pami_model.specs.Draft as draft
 use Rattle.pami_model.specs.Draft.{place_of, row_fault}
@@ -22,68 +21,77 @@ use Rattle.pami_model.specs.Refusal.{judge_build}
 use Rattle.pami_model.proofs.Judging.{some≢none, both_none, unset}
 use Rattle.pami_mps.specs.declared.kind.RowKind.{RowKind}
 use Rattle.pami_mps.specs.declared.kind.Section.{Section}
-use Rattle.pami_mps.specs.Gather.{Seen, Declared, Pair, Value, kept_as, free_as, kept_in, free_in, kind_of, is_free, names_of, row_of, goal_values, given_for, constant_by, is_any, bounds_of, seen_by}
-use Rattle.pami_mps.specs.After.{with_row, after_row}
+use Rattle.pami_mps.specs.declared.kind.Told.{Told}
+use Rattle.pami_mps.specs.Gather.{Declared, kept_as, free_as, kept_in, free_in, kind_of, is_free, names_of, goal_values, constant_by, sense_by, is_any}
+use Rattle.pami_mps.specs.Rows.{told_of, row_of, plain_bounds}
+use Rattle.pami_mps.specs.Seen.{Given, Seen, seen_by}
+use Rattle.pami_mps.specs.After.{new_told, with_row, after_row}
 use Rattle.pami_mps.specs.Judge.{judge_free, judge_kept, judge_kind, judge_row}
 use Rattle.pami_mps.proofs.Changed.{same, place_none}
 use Rattle.pami_mps.proofs.Names.{rows_back}
 use Rattle.pami_mps.proofs.Values.{AreApart}
 
 -- what rows alone give
-abbrev pub declared : Section → List RowKind → List (List ℕ) → List Row → List Bool → Fraction → Bool → Seen
-declared section kinds free out given constant has = record {
+abbrev pub declared : Section → Given → List (List ℕ) → List Told → List Row → Fraction → Bool → Seen
+declared section g free told out constant has = record {
   section = section;
-  kinds = kinds;
   free = free;
-  draft = record { sense = senses.Min; constant = constant; rows = out; columns = []; pairs = [] };
+  told = told;
+  sides = [];
+  draft = record { sense = sense_by g.senses; constant = constant; rows = out; columns = []; pairs = [] };
   has_cost = false;
-  given = given;
   has_constant = has;
 }
+
+-- what is given with these rows, before COLUMNS
+abbrev pub rowed : Given → List Declared → List (List ℕ) → Given
+rowed g rows free = record { senses = g.senses; rows = rows; free = free; pairs = []; values = []; ranges = []; limits = [] }
 
 no_goals : (free : List (List ℕ)) → goal_values free [] ≡ []
 no_goals [] = refl
 no_goals (n ∷ free) = refl
 
-module _ (section : Section) (rows : List Declared) (free : List (List ℕ)) where
+module _ (section : Section) (g : Given) (rows : List Declared) (free : List (List ℕ)) where
+  abbrev old : Seen
+  old = seen_by section (rowed g rows free)
+
   -- a row of the model and an N row
   abbrev more : List Declared → List (List ℕ) → Seen
-  more ds ns = seen_by section (rows ++ ds) (free ++ ns) [] []
+  more ds ns = seen_by section (rowed g (rows ++ ds) (free ++ ns))
 
-  none_more : more [] [] ≡ seen_by section rows free [] []
+  none_more : more [] [] ≡ old
   none_more = rw (append-nil rows, append-nil free) refl
 
-  free_more : (name : List ℕ) → more [] (name ∷ []) ≡ record (seen_by section rows free [] []) { free = free ++ name ∷ [] }
+  free_more : (name : List ℕ) → more [] (name ∷ []) ≡ record old { free = free ++ name ∷ [] }
   free_more name =
       let all : rows ++ [] ≡ rows = append-nil rows in
       let goals : goal_values (free ++ name ∷ []) [] ≡ goal_values free [] = no_goals (free ++ name ∷ []) ∙ sym (no_goals free) in
-      (λ i. declared section (map (λ (r : Declared). r.kind) (all i)) (free ++ name ∷ []) (map (row_of []) (all i)) (map (λ (r : Declared). is_any (given_for [] r.name)) (all i)) (constant_by (goals i)) (is_any (goals i)))
+      (λ i. declared section g (free ++ name ∷ []) (map (told_of [] []) (all i)) (map (row_of [] []) (all i)) (constant_by (goals i)) (is_any (goals i)))
 
-  kept_more : (name : List ℕ) (kind : RowKind) → is_free kind ≡ false → more (record { name = name; kind = kind } ∷ []) [] ≡ with_row (Some kind) name (seen_by section rows free [] [])
+  kept_more : (name : List ℕ) (kind : RowKind) → is_free kind ≡ false → more (record { name = name; kind = kind } ∷ []) [] ≡ with_row (Some kind) name old
   kept_more name kind e =
       let d : Declared = record { name = name; kind = kind } in
       let all : free ++ [] ≡ free = append-nil free in
-      let kinds = map-append (λ (r : Declared). r.kind) rows (d ∷ []) in
-      let out = map-append (row_of []) rows (d ∷ []) in
-      let given = map-append (λ (r : Declared). is_any (given_for [] r.name)) rows (d ∷ []) in
-      (λ i. declared section (kinds i) (all i) (out i) (given i) (constant_by (goal_values (all i) [])) (is_any (goal_values (all i) [])))
-      ∙ ap (λ (b : Bool). cond b (record (seen_by section rows free [] []) { free = free ++ name ∷ [] })
-      (declared section (map (λ (r : Declared). r.kind) rows ++ kind ∷ []) free (map (row_of []) rows ++ draft.new_row name (bounds_of kind draft.zero) ∷ []) (map (λ (r : Declared). is_any (given_for [] r.name)) rows ++ false ∷ []) (constant_by (goal_values free [])) (is_any (goal_values free [])))) (sym e)
+      let told = map-append (told_of [] []) rows (d ∷ []) in
+      let out = map-append (row_of [] []) rows (d ∷ []) in
+      (λ i. declared section g (all i) (told i) (out i) (constant_by (goal_values (all i) [])) (is_any (goal_values (all i) [])))
+      ∙ ap (λ (b : Bool). cond b (record old { free = free ++ name ∷ [] })
+      (declared section g free (map (told_of [] []) rows ++ new_told kind ∷ []) (map (row_of [] []) rows ++ draft.new_row name (plain_bounds kind (Some draft.zero)) ∷ []) (constant_by (goal_values free [])) (is_any (goal_values free [])))) (sym e)
 
-  kind_more : (name : List ℕ) (o : Option RowKind) → more (kept_as name o) (free_as name o) ≡ with_row o name (seen_by section rows free [] [])
+  kind_more : (name : List ℕ) (o : Option RowKind) → more (kept_as name o) (free_as name o) ≡ with_row o name old
   kind_more name None = none_more
   kind_more name (Some kind) = by (is_free kind) refl
     where
-      by : (b : Bool) → is_free kind ≡ b → more (kept_as name (Some kind)) (free_as name (Some kind)) ≡ with_row (Some kind) name (seen_by section rows free [] [])
+      by : (b : Bool) → is_free kind ≡ b → more (kept_as name (Some kind)) (free_as name (Some kind)) ≡ with_row (Some kind) name old
       by true e = ap (λ (b : Bool). more (cond b [] (record { name = name; kind = kind } ∷ [])) (cond b (name ∷ []) [])) e ∙ free_more name
-          ∙ ap (λ (b : Bool). cond b (record (seen_by section rows free [] []) { free = free ++ name ∷ [] }) (with_row (Some kind) name (seen_by section rows free [] []))) (sym e) ∙ settle (is_free kind) _ _
+          ∙ ap (λ (b : Bool). cond b (record old { free = free ++ name ∷ [] }) (with_row (Some kind) name old)) (sym e) ∙ settle (is_free kind) _ _
         where
           settle : (b : Bool) (x y : Seen) → cond b x (cond b x y) ≡ cond b x y
           settle true x y = refl
           settle false x y = refl
       by false e = ap (λ (b : Bool). more (cond b [] (record { name = name; kind = kind } ∷ [])) (cond b (name ∷ []) [])) e ∙ kept_more name kind e
 
-  pub row_line : (words : List (List ℕ)) → more (kept_in words) (free_in words) ≡ after_row (seen_by section rows free [] []) words
+  pub row_line : (words : List (List ℕ)) → more (kept_in words) (free_in words) ≡ after_row old words
   row_line [] = none_more
   row_line (a ∷ []) = none_more
   row_line (kind ∷ name ∷ []) = kind_more name (kind_of kind)
@@ -118,9 +126,15 @@ pub record AreNames (kept free : List (List ℕ)) : Type 0 where
   pub distinct : IsDistinct bytes_eq kept
   pub apart : AreApart kept free
 
-module _ (section : Section) (rows : List Declared) (free : List (List ℕ)) (pairs : List Pair) (values : List Value) (are : AreNames (names_of rows) free) where
+module _ (section : Section) (g : Given) (are : AreNames (names_of g.rows) g.free) where
+  abbrev rows : List Declared
+  rows = g.rows
+
+  abbrev free : List (List ℕ)
+  free = g.free
+
   abbrev now : Seen
-  now = seen_by section rows free pairs values
+  now = seen_by section g
 
   with_names : (xs ys : List (List ℕ)) (us vs : List (List ℕ)) → xs ≡ us → ys ≡ vs → AreNames us vs → AreNames xs ys
   with_names xs ys us vs e f h = subst (λ (zs : List (List ℕ)). AreNames zs ys) (sym e) (subst (λ (zs : List (List ℕ)). AreNames us zs) (sym f) h)
@@ -134,12 +148,12 @@ module _ (section : Section) (rows : List Declared) (free : List (List ℕ)) (pa
       by true j =
           let parts = or_parts (list_any (bytes_eq name) free) _ (unset _ kinds.DuplicateRow (both_none (wrong_if (nat_lt name_limit (length name)) kinds.NameLong) _ j).1) in
           with_names _ _ _ _ (ap names_of (append-nil rows)) refl
-          (record { distinct = are.distinct; apart = apart_free (names_of rows) free name (ap (list_any (bytes_eq name)) (sym (rows_back values rows)) ∙ parts.1) are.apart })
+          (record { distinct = are.distinct; apart = apart_free (names_of rows) free name (ap (list_any (bytes_eq name)) (sym (rows_back g.values g.ranges g.rows)) ∙ parts.1) are.apart })
       by false j =
           let rest = both_none (wrong_if (list_any (bytes_eq name) free) kinds.DuplicateRow) _ (both_none (wrong_if (nat_lt name_limit (length name)) kinds.NameLong) _ j).1 in
           let away : list_any (bytes_eq name) free ≡ false = unset _ kinds.DuplicateRow rest.0 in
-          let none : place_of name (names_of_rows (map (row_of values) rows)) ≡ None = unplaced (nat_lt name_limit (length name)) (place_of name (names_of_rows (map (row_of values) rows))) _ rest.1 in
-          let absent : list_any (bytes_eq name) (names_of rows) ≡ false = place_none name (names_of rows) (ap (place_of name) (sym (rows_back values rows)) ∙ none) in
+          let none : place_of name (names_of_rows (map (row_of g.values g.ranges) g.rows)) ≡ None = unplaced (nat_lt name_limit (length name)) (place_of name (names_of_rows (map (row_of g.values g.ranges) g.rows))) _ rest.1 in
+          let absent : list_any (bytes_eq name) (names_of rows) ≡ false = place_none name (names_of rows) (ap (place_of name) (sym (rows_back g.values g.ranges g.rows)) ∙ none) in
           with_names _ _ _ _ (map-append (λ (r : Declared). r.name) rows (record { name = name; kind = kind } ∷ [])) (append-nil free)
           (record { distinct = IsDistinct-push nat_list_eq_equiv (names_of rows) name are.distinct absent; apart = apart_kept (names_of rows) free name away are.apart })
 

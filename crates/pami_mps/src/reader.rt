@@ -420,9 +420,9 @@ impl Reader {
         if told.has_range {
             return Err(Fault::Named(FileKind::DuplicateEntry));
         }
-        let bounds = with_range(told.kind, &told.right, &range)?;
+        let Bounds { low, high } = with_range(told.kind, &told.right, &range)?;
         told.has_range = true;
-        self.builder.set_row_bounds(row, bounds);
+        self.builder.set_row_bounds(row, Bounds { low, high });
         Ok(())
     }
 

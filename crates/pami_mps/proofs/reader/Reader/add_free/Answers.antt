@@ -2,7 +2,7 @@ use Rattle.std.proofs.Common.{◌≡◌, ◌++◌, ◌∷◌, [], refl, true, fa
 use Rattle.std.specs.List.{list_any}
 use Rattle.std.specs.Str.{bytes_eq}
 use Rattle.pami_model.specs.Rules.{names_of_rows}
-use Rattle.pami_mps.specs.Gather.{Seen}
+use Rattle.pami_mps.specs.Seen.{Seen}
 use Rattle.pami_mps.specs.Reader.{seen_by_reader}
 use Rattle.pami_mps.proofs.Keys.{list_any-names, insert_key-new, names_in}
 use Rattle.pami_mps.proofs.Places.{any_is_place}
