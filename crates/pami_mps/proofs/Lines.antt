@@ -105,10 +105,10 @@ module _ (bytes : List ℕ) (i : ℕ) (s : Seen) (is : Open (text_lines bytes) i
 
   module _ (l : Line) (lt : i < length (text_lines bytes)) (e : l ≡ get_or (text_lines bytes) i blank) (fits : length bytes ≤ byte_limit) where
     -- a line that isn't taken
-    pub refused : (f : Fault FileKind) (n : ℕ) → n ≡ i + 1 → Follows {A = Unit {0}} (judge s l) (Err f) → IsRefused {A = Unit {0}} bytes (Err (placed_at n f))
-    refused (outcomes.Named k) n c h =
+    pub refused : (A : Type 0) (f : Fault FileKind) (n : ℕ) → n ≡ i + 1 → Follows {A = Unit {0}} (judge s l) (Err f) → IsRefused {A = A} bytes (Err (placed_at n f))
+    refused A (outcomes.Named k) n c h =
         stopped bytes fits i k lt is.so.good (here (text_lines bytes) i s l is.so e (Some k) (ap (λ (j : Option FileKind). first_of j (judge_crossed (ends s l) s)) h)) n c
-    refused outcomes.OutOfMemory n c h = tt
+    refused A outcomes.OutOfMemory n c h = tt
 
     -- ENDATA
     pub read_to : judge s l ≡ None → (t : Seen) → t ≡ after s l → t.section ≡ End → (n : ℕ) → n ≡ i + 1 → IsRead bytes t n

@@ -267,8 +267,10 @@ ready_at : (ls : List Line) (i : ℕ) → i ≤ length ls → AreGood (fault_at 
 ready_at ls zero le good = ready_start
 ready_at ls (suc i) le good =
     let good_there : judge (seen (take i ls)) (get_or ls i blank) ≡ None = (both_none (judge (seen (take i ls)) (get_or ls i blank)) _ (good i (omega arith))).0 in
-    let grown : take i ls ++ get_or ls i blank ∷ [] ≡ take (suc i) ls = sym (take_more ls i blank (omega arith)) ∙ ap (λ (k : ℕ). take k ls) (omega arith) in
-    subst Ready grown (ready_more (take i ls) (get_or ls i blank) (ready_at ls i (omega arith) (λ j lt. good j (omega arith))) good_there)
+    let next_one : i + 1 ≡ suc i = omega arith in
+    let lt : i < length ls = omega arith in
+    let one_more : take i ls ++ get_or ls i blank ∷ [] ≡ take (suc i) ls = sym (take_more ls i blank lt) ∙ ap (λ (k : ℕ). take k ls) next_one in
+    subst Ready one_more (ready_more (take i ls) (get_or ls i blank) (ready_at ls i (omega arith) (λ j below. good j (omega arith))) good_there)
 
 -- what a reader has taken as far as ENDATA
 module _ (bytes : List ℕ) (s : Seen) (n : ℕ) (read : IsRead bytes s n) where
@@ -282,16 +284,16 @@ module _ (bytes : List ℕ) (s : Seen) (n : ℕ) (read : IsRead bytes s n) where
   before = seen (take read.place all)
 
   so : So all read.place before
-  so = record { good = read.before; state = refl; ready = ready_at all read.place (Rattle.std.proofs.Common.lt-le read.within) read.before }
+  so = record { good = read.before; state = refl; ready = ready_at all read.place (let lt : read.place < length all = read.within in omega arith) read.before }
 
-  grown : take read.place all ++ last ∷ [] ≡ take (read.place + 1) all
-  grown = sym (take_more all read.place blank read.within)
+  longer : take read.place all ++ last ∷ [] ≡ take (read.place + 1) all
+  longer = sym (take_more all read.place blank read.within)
 
   next_is : is_end (next before.section last) ≡ true
-  next_is = ap is_end (sym (section_more (take read.place all) last) ∙ ap section_at grown ∙ ap (λ (x : Seen). x.section) (sym read.state) ∙ read.ended)
+  next_is = ap is_end (sym (section_more (take read.place all) last) ∙ ap section_at longer ∙ ap (λ (x : Seen). x.section) (sym read.state) ∙ read.ended)
 
   after_is : s ≡ after before last
-  after_is = read.state ∙ ap seen (sym grown) ∙ seen_more (take read.place all) last so.ready read.line
+  after_is = read.state ∙ ap seen (sym longer) ∙ seen_more (take read.place all) last so.ready read.line
 
   draft_is : s.draft ≡ before.draft
   draft_is = ap (λ (x : Seen). x.draft) after_is ∙ end_gives before last read.open_still next_is
