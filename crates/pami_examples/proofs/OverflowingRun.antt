@@ -21,6 +21,7 @@ use Rattle.std.specs.Fmt.{digits}
 use Rattle.pami_frac.specs.Printed.{printed}
 use Rattle.pami_lines.specs.Line.{text}
 use Rattle.pami_text.specs.Record.{run_lines}
+use Rattle.pami_frac.specs.BoundText.{bound_outcome}
 use Rattle.pami_frac.specs.Decimal.{digits_within, zeros_within, decimal_outcome}
 use Rattle.pami_script.specs.Dense.{dense}
 use Rattle.pami_mps.specs.Mps.{Mps}
@@ -31,8 +32,8 @@ use Rattle.pami_examples.specs.Overflowing.{overflowing_file, overflowing_conten
 
 -- ---- the file
 pub overflowing_read : Mps overflowing_file overflowing_contents
-unfolding digits_within zeros_within decimal_outcome of_int neg_f gcd
-overflowing_read = read_by_tests _ _ refl refl refl refl refl
+unfolding digits_within zeros_within decimal_outcome bound_outcome of_int neg_f gcd
+overflowing_read = read_by_tests _ _ refl refl refl refl
 
 pub overflowing_formed : model_form overflowing_contents ≡ overflowing
 unfolding dense of_int neg_f gcd

@@ -19,6 +19,7 @@ use Rattle.std.specs.Fmt.{digits}
 use Rattle.pami_frac.specs.Printed.{printed}
 use Rattle.pami_lines.specs.Line.{text}
 use Rattle.pami_text.specs.Record.{run_lines}
+use Rattle.pami_frac.specs.BoundText.{bound_outcome}
 use Rattle.pami_frac.specs.Decimal.{digits_within, zeros_within, decimal_outcome}
 use Rattle.pami_script.specs.Dense.{dense}
 use Rattle.pami_mps.specs.Mps.{Mps}
@@ -29,8 +30,8 @@ use Rattle.pami_examples.specs.Refusing.{refusing_file, refusing_contents, refus
 
 -- ---- the file
 pub refusing_read : Mps refusing_file refusing_contents
-unfolding digits_within zeros_within decimal_outcome of_int neg_f gcd
-refusing_read = read_by_tests _ _ refl refl refl refl refl
+unfolding digits_within zeros_within decimal_outcome bound_outcome of_int neg_f gcd
+refusing_read = read_by_tests _ _ refl refl refl refl
 
 pub refusing_formed : model_form refusing_contents ≡ refusing
 unfolding dense of_int neg_f gcd

@@ -38,7 +38,6 @@ pieces_count vs bytes e = lines_count (map (piece bytes) vs) bytes e ∙ length-
 pub within : (vs : List Piece) (bytes : List ℕ) (i : ℕ) → map (piece bytes) vs ≡ lines_of bytes → i < length vs → i < length (text_lines bytes)
 within vs bytes i e lt = let n : length (text_lines bytes) ≡ length vs = pieces_count vs bytes e in omega arith
 
-
 -- there are no more lines than bytes
 hang_count : (b : ℕ) (xs : List (List ℕ)) → length (hang b xs) ≤ length xs + 1
 hang_count b [] = omega arith

@@ -115,10 +115,10 @@ module _ (section : Section) (g : Given) (distinct : IsDistinct bytes_eq (names_
         let at : IsRowOf values [] g.rows r i = row_at values [] g.rows r i e in
         let none : given_for values r ≡ [] = none_given (given_for values r) (ap (λ (n : List ℕ). is_any (given_for values n)) (sym at.name) ∙ ap (λ (t : Told). t.has_right) (sym at.told) ∙ free_still) in
         let row_hit : (x : Declared) (xs : List Declared) → bytes_eq r x.name ≡ true
-            → row_of more [] x ≡ row_with_bounds (plain_bounds (told_by (x ∷ xs) 0).kind (bound_by value)) (row_of values [] x) =
+        → row_of more [] x ≡ row_with_bounds (plain_bounds (told_by (x ∷ xs) 0).kind (bound_by value)) (row_of values [] x) =
         (λ x xs h. ap (λ (ws : List (List ℕ)). new_row x.name (bounds_with x.kind (right_by ws) None)) (first_given values r v x.name none h)) in
         let told_hit : (x : Declared) (xs : List Declared) → bytes_eq r x.name ≡ true
-            → ◌≡◌ {A = Told} (told_of more [] x) (record (told_by (x ∷ xs) 0) { right = value; has_right = true }) =
+        → ◌≡◌ {A = Told} (told_of more [] x) (record (told_by (x ∷ xs) 0) { right = value; has_right = true }) =
         (λ x xs h. ap (λ (ws : List (List ℕ)). let t : Told = record { kind = x.kind; right = right_by ws; has_right = is_any ws; has_range = false } in t) (first_given values r v x.name none h)) in
         let out = sym (map_changed (λ (x : Declared). x.name) (row_of values []) (row_of more []) r (λ xs k. row_with_bounds (plain_bounds (told_by xs k).kind (bound_by value))) (λ x xs k. refl) row_hit row_missed g.rows i e distinct) in
         let told = sym (map_changed (λ (x : Declared). x.name) (told_of values []) (told_of more []) r (λ xs k. (λ (u : Told). record (told_by xs k) { right = value; has_right = true })) (λ x xs k. refl) told_hit told_missed g.rows i e distinct) in
@@ -208,7 +208,7 @@ module _ (section : Section) (g : Given) (distinct : IsDistinct bytes_eq (names_
         let at : IsRowOf g.values ranges g.rows r i = row_at g.values ranges g.rows r i e in
         let none : given_for ranges r ≡ [] = none_given (given_for ranges r) (ap (λ (n : List ℕ). is_any (given_for ranges n)) (sym at.name) ∙ ap (λ (t : Told). t.has_range) (sym at.told) ∙ free_still) in
         let row_hit : (x : Declared) (xs : List Declared) → bytes_eq r x.name ≡ true
-            → row_of g.values wider x ≡ row_with_bounds (bounds_with (marked (x ∷ xs) 0).kind (marked (x ∷ xs) 0).right (Some value)) (row_of g.values ranges x) =
+        → row_of g.values wider x ≡ row_with_bounds (bounds_with (marked (x ∷ xs) 0).kind (marked (x ∷ xs) 0).right (Some value)) (row_of g.values ranges x) =
         (λ x xs h. ap (λ (ws : List (List ℕ)). new_row x.name (bounds_with x.kind (right_by (given_for g.values x.name)) (range_by ws))) (first_given ranges r v x.name none h)) in
         let told_hit : (x : Declared) (xs : List Declared) → bytes_eq r x.name ≡ true → ◌≡◌ {A = Told} (told_of g.values wider x) (record (marked (x ∷ xs) 0) { has_range = true }) =
         (λ x xs h. ap (λ (ws : List (List ℕ)). let t : Told = record { kind = x.kind; right = right_by (given_for g.values x.name); has_right = is_any (given_for g.values x.name); has_range = is_any ws } in t)

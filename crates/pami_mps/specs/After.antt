@@ -221,5 +221,9 @@ after_words Ranges s words = after_ranges s (without_set words)
 after_words Limits s words = after_limits s words
 after_words End s words = s
 
+-- behind these words, of a section line or a data line
+abbrev pub after_read : Bool → Seen → List (List ℕ) → Seen
+after_read head s words = if head then after_head s words else after_words s.section s words
+
 abbrev pub after : Seen → Line → Seen
-after s l = if is_end s.section then s else (if l.head then after_head s l.words else after_words s.section s l.words)
+after s l = if is_end s.section then s else after_read l.head s l.words

@@ -244,8 +244,12 @@ abbrev pub judge_data : Seen → List (List ℕ) → Option FileKind
 judge_data s [] = None
 judge_data s (w ∷ ws) = judge_words s.section s (w ∷ ws)
 
+-- the words of a section line or a data line
+abbrev pub judge_body : Bool → Seen → List (List ℕ) → Option FileKind
+judge_body head s words = if head then judge_head s.section words else judge_data s words
+
 abbrev pub judge_read : Seen → Line → Option FileKind
-judge_read s l = first_of (wrong_if l.control kinds.Byte) (if l.head then judge_head s.section l.words else judge_data s l.words)
+judge_read s l = first_of (wrong_if l.control kinds.Byte) (judge_body l.head s l.words)
 
 -- what is wrong with a line after what the lines before it have given; nothing is, behind ENDATA
 abbrev pub judge : Seen → Line → Option FileKind

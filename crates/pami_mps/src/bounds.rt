@@ -70,7 +70,11 @@ pub(crate) fn is_bad_right(kind: RowKind, right: &BoundValue) -> bool
 fn magnitude(value: Frac) -> Frac
     ensures { result ≡ the_magnitude value }
 {
-    if value.is_negative() { value.negate() } else { value }
+    if value.is_negative() {
+        value.negate()
+    } else {
+        value
+    }
 }
 
 /// How far the side that a range computes is from the right-hand side.

@@ -7,7 +7,11 @@
 #![tactic(auto)]
 
 mod bounds;
+#[cfg(test)]
+mod fault_tests;
 mod kind;
+#[cfg(test)]
+mod limit_tests;
 mod read;
 mod reader;
 #[cfg(test)]

@@ -1,6 +1,6 @@
 //! The reader's state, and one function for each kind of line.
 
-ghost use Rattle.std.specs.Prelude.{◌≡◌, ◌<◌, ◌∷◌, [], false, length, map, Some, IfOk, OnOk, if◌then◌else◌};
+ghost use Rattle.std.specs.Prelude.{◌≡◌, ◌<◌, ◌∷◌, [], false, length, map, Some, IfOk, OnOk};
 ghost use Rattle.std.specs.Option.{option_map};
 ghost use Rattle.pami_frac.specs.Answers.{Follows};
 ghost use Rattle.pami_mps.specs.Line.{is_end, line_of};
@@ -9,8 +9,8 @@ ghost use Rattle.pami_frac.specs.declared.bound.BoundValue.TheVariants.{Finite};
 ghost use Rattle.pami_model.specs.Draft.{zero};
 ghost use Rattle.pami_model.specs.Number.{limit_value};
 ghost use Rattle.pami_mps.specs.Limits.{limit, effect as the_effect, unstated as nothing_stated, unvalued_in, valued_in};
-ghost use Rattle.pami_mps.specs.After.{after, after_column, after_goal, after_head, after_limits, after_ranges, after_row, after_sense, after_values, after_words, role_for, sides_at, with_column, with_constant, with_entry, with_limit, with_limits, with_pair, with_range as with_the_range, with_ranged, with_right, with_row, with_sides, with_told, with_value};
-ghost use Rattle.pami_mps.specs.Judge.{judge, judge_column, judge_column_name, judge_data, judge_entry, judge_free, judge_goal, judge_head, judge_kept, judge_known, judge_limit_kind, judge_limited, judge_limits, judge_pair, judge_range, judge_ranged, judge_ranges, judge_right, judge_row, judge_sense_line, judge_unvalued, judge_value, judge_valued, judge_values, judge_whole_kind};
+ghost use Rattle.pami_mps.specs.After.{after, after_column, after_goal, after_head, after_limits, after_ranges, after_read, after_row, after_sense, after_values, after_words, role_for, sides_at, with_column, with_constant, with_entry, with_limit, with_limits, with_pair, with_range as with_the_range, with_ranged, with_right, with_row, with_sides, with_told, with_value};
+ghost use Rattle.pami_mps.specs.Judge.{judge, judge_body, judge_column, judge_column_name, judge_data, judge_entry, judge_free, judge_goal, judge_head, judge_kept, judge_known, judge_limit_kind, judge_limited, judge_limits, judge_pair, judge_range, judge_ranged, judge_ranges, judge_right, judge_row, judge_sense_line, judge_unvalued, judge_value, judge_valued, judge_values, judge_whole_kind};
 ghost use Rattle.pami_mps.specs.Reader.{seen_by_reader, nothing_seen, IsEven, role_told};
 
 use crate::bounds::{
@@ -18,7 +18,9 @@ use crate::bounds::{
 };
 use crate::kind::{LimitKind, RowKind, RowRole, Section, Sides, Told};
 use crate::text::{has_control, is_comment, is_head, words};
-use crate::word::{follows, is_marker, is_whole_kind, kind_of, limit_kind_of, section_of, sense_of};
+use crate::word::{
+    follows, is_marker, is_whole_kind, kind_of, limit_kind_of, section_of, sense_of,
+};
 use indexmap::IndexSet;
 use pami_frac::{BoundValue, Bounds, Fault, Frac, OutOfMemory};
 use pami_model::{Builder, FileKind, NAME_LIMIT, file_fault, read_limit, read_number};
@@ -113,7 +115,8 @@ impl Reader {
     /// The words behind OBJSENSE on its line.
     fn take_goal(&mut self, others: &[&[u8]]) -> Result<(), Fault<FileKind>>
         ensures judged { Follows (judge_goal (map (λ w. w.now) others.now)) result }
-        ensures grown { OnOk result (seen_by_reader self.new ≡ after_goal (seen_by_reader self.old) (map (λ w. w.now) others.now)) }
+        ensures grown { OnOk result (seen_by_reader self.new
+            ≡ after_goal (seen_by_reader self.old) (map (λ w. w.now) others.now)) }
     {
         match others {
             [] => {
@@ -129,7 +132,8 @@ impl Reader {
     fn take_sense_line(&mut self, words: &[&[u8]]) -> Result<(), Fault<FileKind>>
         requires { 0 < length words.now }
         ensures judged { Follows (judge_sense_line (map (λ w. w.now) words.now)) result }
-        ensures grown { OnOk result (seen_by_reader self.new ≡ after_sense (seen_by_reader self.old) (map (λ w. w.now) words.now)) }
+        ensures grown { OnOk result (seen_by_reader self.new
+            ≡ after_sense (seen_by_reader self.old) (map (λ w. w.now) words.now)) }
     {
         match words {
             [word] => self.take_sense(word),
@@ -140,7 +144,8 @@ impl Reader {
     /// A section line.
     fn take_head(&mut self, words: &[&[u8]]) -> Result<(), Fault<FileKind>>
         ensures judged { Follows (judge_head self.old.section (map (λ w. w.now) words.now)) result }
-        ensures grown { OnOk result (seen_by_reader self.new ≡ after_head (seen_by_reader self.old) (map (λ w. w.now) words.now)) }
+        ensures grown { OnOk result (seen_by_reader self.new
+            ≡ after_head (seen_by_reader self.old) (map (λ w. w.now) words.now)) }
     {
         match words {
             [] => Err(Fault::Named(FileKind::Section)),
@@ -181,7 +186,8 @@ impl Reader {
     /// An N row.
     fn add_free(&mut self, alloc: Global, name: &[u8]) -> Result<(), Fault<FileKind>>
         ensures judged { Follows (judge_free (seen_by_reader self.old) name.now) result }
-        ensures grown { OnOk result (seen_by_reader self.new ≡ with_row (Some RowKind.Free) name.now (seen_by_reader self.old)) }
+        ensures grown { OnOk result (seen_by_reader self.new
+            ≡ with_row (Some RowKind.Free) name.now (seen_by_reader self.old)) }
     {
         if name.len() > NAME_LIMIT {
             return Err(Fault::Named(FileKind::NameLong));
@@ -200,7 +206,8 @@ impl Reader {
     fn add_kept(&mut self, kind: RowKind, name: &[u8]) -> Result<(), Fault<FileKind>>
         requires { is_free_kind kind ≡ false }
         ensures judged { Follows (judge_kept (seen_by_reader self.old) name.now) result }
-        ensures grown { OnOk result (seen_by_reader self.new ≡ with_row (Some kind) name.now (seen_by_reader self.old)) }
+        ensures grown { OnOk result (seen_by_reader self.new
+            ≡ with_row (Some kind) name.now (seen_by_reader self.old)) }
     {
         if name.len() > NAME_LIMIT {
             return Err(Fault::Named(FileKind::NameLong));
@@ -208,7 +215,10 @@ impl Reader {
         if self.free.contains(name) {
             return Err(Fault::Named(FileKind::DuplicateRow));
         }
-        if let Err(fault) = self.builder.add_row(name, plain_bounds(kind, Some(Frac::zero()))) {
+        if let Err(fault) = self
+            .builder
+            .add_row(name, plain_bounds(kind, Some(Frac::zero())))
+        {
             return Err(file_fault(fault));
         }
         self.told.push(Told {
@@ -223,7 +233,8 @@ impl Reader {
     /// A line of ROWS.
     fn take_row(&mut self, alloc: Global, words: &[&[u8]]) -> Result<(), Fault<FileKind>>
         ensures judged { Follows (judge_row (seen_by_reader self.old) (map (λ w. w.now) words.now)) result }
-        ensures grown { OnOk result (seen_by_reader self.new ≡ after_row (seen_by_reader self.old) (map (λ w. w.now) words.now)) }
+        ensures grown { OnOk result (seen_by_reader self.new
+            ≡ after_row (seen_by_reader self.old) (map (λ w. w.now) words.now)) }
     {
         match words {
             [kind, name] => match kind_of(kind) {
@@ -263,7 +274,8 @@ impl Reader {
         requires some { 0 < length self.old.builder.columns }
         requires row_in { row < length self.old.builder.rows }
         ensures judged { Follows (judge_entry (seen_by_reader self.old) (Kept row) value) result }
-        ensures grown { OnOk result (seen_by_reader self.new ≡ with_entry (Some (Kept row)) value (seen_by_reader self.old)) }
+        ensures grown { OnOk result (seen_by_reader self.new
+            ≡ with_entry (Some (Kept row)) value (seen_by_reader self.old)) }
         ensures some { OnOk result (0 < length self.new.builder.columns) }
     {
         let last = self.builder.column_count() - 1;
@@ -277,7 +289,8 @@ impl Reader {
     fn set_cost(&mut self, value: Frac) -> Result<(), Fault<FileKind>>
         requires { 0 < length self.old.builder.columns }
         ensures judged { Follows (judge_entry (seen_by_reader self.old) Objective value) result }
-        ensures grown { OnOk result (seen_by_reader self.new ≡ with_entry (Some Objective) value (seen_by_reader self.old)) }
+        ensures grown { OnOk result (seen_by_reader self.new
+            ≡ with_entry (Some Objective) value (seen_by_reader self.old)) }
         ensures some { OnOk result (0 < length self.new.builder.columns) }
     {
         if self.has_cost {
@@ -311,7 +324,8 @@ impl Reader {
     /// A line of COLUMNS.
     fn take_column(&mut self, words: &[&[u8]]) -> Result<(), Fault<FileKind>>
         ensures judged { Follows (judge_column (seen_by_reader self.old) (map (λ w. w.now) words.now)) result }
-        ensures grown { OnOk result (seen_by_reader self.new ≡ after_column (seen_by_reader self.old) (map (λ w. w.now) words.now)) }
+        ensures grown { OnOk result (seen_by_reader self.new
+            ≡ after_column (seen_by_reader self.old) (map (λ w. w.now) words.now)) }
     {
         match words {
             [column, row, value] => self.take_one(column, row, value),
@@ -325,8 +339,10 @@ impl Reader {
 
     /// The name and the first pair of a line of COLUMNS.
     fn take_one(&mut self, column: &[u8], row: &[u8], value: &[u8]) -> Result<(), Fault<FileKind>>
-        ensures judged { Follows (judge_column (seen_by_reader self.old) (column.now ∷ row.now ∷ value.now ∷ [])) result }
-        ensures grown { OnOk result (seen_by_reader self.new ≡ after_column (seen_by_reader self.old) (column.now ∷ row.now ∷ value.now ∷ [])) }
+        ensures judged { Follows
+            (judge_column (seen_by_reader self.old) (column.now ∷ row.now ∷ value.now ∷ [])) result }
+        ensures grown { OnOk result (seen_by_reader self.new
+            ≡ after_column (seen_by_reader self.old) (column.now ∷ row.now ∷ value.now ∷ [])) }
         ensures some { OnOk result (0 < length self.new.builder.columns) }
     {
         self.stand_column(column)?;
@@ -396,8 +412,10 @@ impl Reader {
     /// A line of RHS.
     fn take_values(&mut self, words: &[&[u8]]) -> Result<(), Fault<FileKind>>
         requires { IsEven (seen_by_reader self.old) }
-        ensures judged { Follows (judge_values (seen_by_reader self.old) (without_set (map (λ w. w.now) words.now))) result }
-        ensures grown { OnOk result (seen_by_reader self.new ≡ after_values (seen_by_reader self.old) (without_set (map (λ w. w.now) words.now))) }
+        ensures judged { Follows
+            (judge_values (seen_by_reader self.old) (without_set (map (λ w. w.now) words.now))) result }
+        ensures grown { OnOk result (seen_by_reader self.new
+            ≡ after_values (seen_by_reader self.old) (without_set (map (λ w. w.now) words.now))) }
     {
         match pairs_of(words) {
             [row, value] => self.take_value(row, value),
@@ -430,7 +448,8 @@ impl Reader {
     fn take_range(&mut self, row: &[u8], value: &[u8]) -> Result<(), Fault<FileKind>>
         requires { IsEven (seen_by_reader self.old) }
         ensures judged { Follows (judge_ranged (seen_by_reader self.old) row.now value.now) result }
-        ensures grown { OnOk result (seen_by_reader self.new ≡ with_ranged row.now value.now (seen_by_reader self.old)) }
+        ensures grown { OnOk result (seen_by_reader self.new
+            ≡ with_ranged row.now value.now (seen_by_reader self.old)) }
     {
         match self.role_of(row) {
             None => Err(Fault::Named(FileKind::UnknownRow)),
@@ -446,8 +465,10 @@ impl Reader {
     /// A line of RANGES.
     fn take_ranges(&mut self, words: &[&[u8]]) -> Result<(), Fault<FileKind>>
         requires { IsEven (seen_by_reader self.old) }
-        ensures judged { Follows (judge_ranges (seen_by_reader self.old) (without_set (map (λ w. w.now) words.now))) result }
-        ensures grown { OnOk result (seen_by_reader self.new ≡ after_ranges (seen_by_reader self.old) (without_set (map (λ w. w.now) words.now))) }
+        ensures judged { Follows
+            (judge_ranges (seen_by_reader self.old) (without_set (map (λ w. w.now) words.now))) result }
+        ensures grown { OnOk result (seen_by_reader self.new
+            ≡ after_ranges (seen_by_reader self.old) (without_set (map (λ w. w.now) words.now))) }
     {
         match pairs_of(words) {
             [row, value] => self.take_range(row, value),
@@ -463,7 +484,8 @@ impl Reader {
     fn set_limit(&mut self, column: u32, kind: LimitKind, value: BoundValue)
         requires even { IsEven (seen_by_reader self.old) }
         requires column_in { column < length self.old.builder.columns }
-        ensures { seen_by_reader self.new ≡ with_sides column (the_effect kind value (sides_at self.old.sides.items column)) (seen_by_reader self.old) }
+        ensures { seen_by_reader self.new
+            ≡ with_sides column (the_effect kind value (sides_at self.old.sides.items column)) (seen_by_reader self.old) }
     {
         let sides = &mut self.sides[column as usize];
         *sides = effect(kind, &value, sides);
@@ -480,7 +502,8 @@ impl Reader {
     ) -> Result<(), Fault<FileKind>>
         requires { IsEven (seen_by_reader self.old) }
         ensures judged { Follows (judge_limited (seen_by_reader self.old) kind column.now value.now) result }
-        ensures grown { OnOk result (seen_by_reader self.new ≡ with_limit (limit column.now kind (limit_value value.now)) (seen_by_reader self.old)) }
+        ensures grown { OnOk result (seen_by_reader self.new
+            ≡ with_limit (limit column.now kind (limit_value value.now)) (seen_by_reader self.old)) }
     {
         let column = match self.builder.find_column(column) {
             Some(column) => column,
@@ -498,7 +521,8 @@ impl Reader {
     fn take_mark(&mut self, kind: LimitKind, column: &[u8]) -> Result<(), Fault<FileKind>>
         requires { IsEven (seen_by_reader self.old) }
         ensures judged { Follows (judge_known (seen_by_reader self.old) column.now) result }
-        ensures grown { OnOk result (seen_by_reader self.new ≡ with_limit (limit column.now kind (Finite zero)) (seen_by_reader self.old)) }
+        ensures grown { OnOk result (seen_by_reader self.new
+            ≡ with_limit (limit column.now kind (Finite zero)) (seen_by_reader self.old)) }
     {
         match self.builder.find_column(column) {
             Some(column) => {
@@ -513,7 +537,8 @@ impl Reader {
     fn take_valued(&mut self, kind: LimitKind, words: &[&[u8]]) -> Result<(), Fault<FileKind>>
         requires { IsEven (seen_by_reader self.old) }
         ensures judged { Follows (judge_valued (seen_by_reader self.old) kind (map (λ w. w.now) words.now)) result }
-        ensures grown { OnOk result (seen_by_reader self.new ≡ with_limits (valued_in kind (map (λ w. w.now) words.now)) (seen_by_reader self.old)) }
+        ensures grown { OnOk result (seen_by_reader self.new
+            ≡ with_limits (valued_in kind (map (λ w. w.now) words.now)) (seen_by_reader self.old)) }
     {
         match words {
             [column, value] => self.take_limit(kind, column, value),
@@ -526,7 +551,8 @@ impl Reader {
     fn take_unvalued(&mut self, kind: LimitKind, words: &[&[u8]]) -> Result<(), Fault<FileKind>>
         requires { IsEven (seen_by_reader self.old) }
         ensures judged { Follows (judge_unvalued (seen_by_reader self.old) (map (λ w. w.now) words.now)) result }
-        ensures grown { OnOk result (seen_by_reader self.new ≡ with_limits (unvalued_in kind (map (λ w. w.now) words.now)) (seen_by_reader self.old)) }
+        ensures grown { OnOk result (seen_by_reader self.new
+            ≡ with_limits (unvalued_in kind (map (λ w. w.now) words.now)) (seen_by_reader self.old)) }
     {
         match words {
             [column] => self.take_mark(kind, column),
@@ -539,8 +565,10 @@ impl Reader {
     /// A line of BOUNDS, by its type and the words behind it.
     fn take_typed(&mut self, kind: &[u8], words: &[&[u8]]) -> Result<(), Fault<FileKind>>
         requires { IsEven (seen_by_reader self.old) }
-        ensures judged { Follows (judge_limits (seen_by_reader self.old) (kind.now ∷ map (λ w. w.now) words.now)) result }
-        ensures grown { OnOk result (seen_by_reader self.new ≡ after_limits (seen_by_reader self.old) (kind.now ∷ map (λ w. w.now) words.now)) }
+        ensures judged { Follows
+            (judge_limits (seen_by_reader self.old) (kind.now ∷ map (λ w. w.now) words.now)) result }
+        ensures grown { OnOk result (seen_by_reader self.new
+            ≡ after_limits (seen_by_reader self.old) (kind.now ∷ map (λ w. w.now) words.now)) }
     {
         check_limit(kind, words)?;
         match limit_kind_of(kind) {
@@ -558,7 +586,8 @@ impl Reader {
     fn take_limits(&mut self, words: &[&[u8]]) -> Result<(), Fault<FileKind>>
         requires { IsEven (seen_by_reader self.old) }
         ensures judged { Follows (judge_limits (seen_by_reader self.old) (map (λ w. w.now) words.now)) result }
-        ensures grown { OnOk result (seen_by_reader self.new ≡ after_limits (seen_by_reader self.old) (map (λ w. w.now) words.now)) }
+        ensures grown { OnOk result (seen_by_reader self.new
+            ≡ after_limits (seen_by_reader self.old) (map (λ w. w.now) words.now)) }
     {
         match words {
             [] => Err(Fault::Named(FileKind::Words)),
@@ -570,7 +599,8 @@ impl Reader {
     fn take_data(&mut self, alloc: Global, words: &[&[u8]]) -> Result<(), Fault<FileKind>>
         requires { IsEven (seen_by_reader self.old) }
         ensures judged { Follows (judge_data (seen_by_reader self.old) (map (λ w. w.now) words.now)) result }
-        ensures grown { OnOk result (seen_by_reader self.new ≡ after_words self.old.section (seen_by_reader self.old) (map (λ w. w.now) words.now)) }
+        ensures grown { OnOk result (seen_by_reader self.new
+            ≡ after_words self.old.section (seen_by_reader self.old) (map (λ w. w.now) words.now)) }
     {
         if words.is_empty() {
             return Ok(());
@@ -597,8 +627,9 @@ impl Reader {
         words: &[&[u8]],
     ) -> Result<(), Fault<FileKind>>
         requires { IsEven (seen_by_reader self.old) }
-        ensures judged { Follows (if head then judge_head self.old.section (map (λ w. w.now) words.now) else judge_data (seen_by_reader self.old) (map (λ w. w.now) words.now)) result }
-        ensures grown { OnOk result (seen_by_reader self.new ≡ (if head then after_head (seen_by_reader self.old) (map (λ w. w.now) words.now) else after_words self.old.section (seen_by_reader self.old) (map (λ w. w.now) words.now))) }
+        ensures judged { Follows (judge_body head (seen_by_reader self.old) (map (λ w. w.now) words.now)) result }
+        ensures grown { OnOk result (seen_by_reader self.new
+            ≡ after_read head (seen_by_reader self.old) (map (λ w. w.now) words.now)) }
     {
         if head {
             return self.take_head(words);

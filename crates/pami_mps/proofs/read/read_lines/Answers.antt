@@ -48,9 +48,14 @@ loop-line-preserved c =
     let pieces = c.as_slice-line-items.result.now in
     let lt = within pieces c.args.bytes.now i e c.loop-line-test.true in
     let at = taken_at pieces c.args.bytes.now i (record { start = 0; end = 0 }) c.of.result.now e c.loop-line-test.true c.of.ensures in
-    let open_still = still_open c.take_line.new.self.section (sym c.eq.ensures ∙ c.if-eq.false) in
-    (record { so = goes_on (text_lines c.args.bytes.now) i (seen_by_reader c.loop-line.reader) (seen_by_reader c.take_line.new.self) (line_of c.of.result.now) c.loop-line.invariant.0.so lt at
-          c.in_default.ensures.judged c.in_default.ensures.grown open_still; open_still = open_still }, ap (λ (k : ℕ). k + 1) c.loop-line.invariant.1)
+    let open_still = still_open c.take_line.new.self.section (sym c.eq.ensures ∙ c.if-eq.false) in (
+      record {
+        so = goes_on (text_lines c.args.bytes.now) i (seen_by_reader c.loop-line.reader) (seen_by_reader c.take_line.new.self) (line_of c.of.result.now) c.loop-line.invariant.0.so lt at
+            c.in_default.ensures.judged c.in_default.ensures.grown open_still;
+        open_still = open_still;
+      },
+      ap (λ (k : ℕ). k + 1) c.loop-line.invariant.1,
+    )
 
 pub overflow_add-result : goal.overflow_add-result
 overflow_add-result c =
