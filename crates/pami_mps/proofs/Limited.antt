@@ -7,12 +7,10 @@ use Rattle.std.proofs.lemmas.List.Elements.{filter-append}
 use Rattle.std.proofs.lemmas.List.Sums.{fold-append}
 use Rattle.pami_frac.specs.declared.bound.BoundValue.{BoundValue}
 use Rattle.pami_frac.specs.declared.bound.BoundValue.TheVariants.{Finite}
-use Rattle.pami_frac.specs.declared.list.Bounds.{Bounds}
 use Rattle.pami_model.specs.declared.list.Column.{Column}
-use Rattle.pami_model.specs.declared.list.Row.{Row}
 use Rattle.pami_model.specs.declared.fault.FileKind.TheVariants as kinds
 use Rattle.pami_model.specs.Rules.{names_of_columns}
-use Rattle.pami_model.specs.Draft.{zero, place_of, changed, column_with_bounds}
+use Rattle.pami_model.specs.Draft.{zero, place_of, column_with_bounds}
 use Rattle.pami_model.specs.Number.{limit_value}
 use Rattle.pami_model.proofs.Judging.{some≢none, both_none}
 use Rattle.pami_mps.specs.declared.kind.LimitKind.{LimitKind}

@@ -1,5 +1,5 @@
 -- The lines as they are cut, taken one after another as far as the end.
-use Rattle.std.proofs.Common.{◌≡◌, ◌≢◌, ◌<◌, ◌≤◌, ◌+◌, ℕ, Bool, true, false, true≢false, cond, not, nat_eq, ◌&&◌, List, [], ◌∷◌, length, get_or, take, map, Option, None, Some, Result, Err, refl, sym, ap, subst, ◌∙◌, arith}
+use Rattle.std.proofs.Common.{◌≡◌, ◌<◌, ◌≤◌, ◌+◌, ℕ, Bool, true, false, true≢false, cond, nat_eq, ◌&&◌, List, [], ◌∷◌, length, get_or, take, map, Option, None, Some, Err, refl, sym, ap, subst, ◌∙◌, arith}
 use Rattle.std.proofs.lemmas.List.{length-map, length-take, get_or-map}
 use denote.Enum.Bare.{sameb}
 use Rattle.pami_frac.specs.declared.fault.Fault.{Fault}
@@ -7,7 +7,6 @@ use Rattle.pami_frac.specs.declared.fault.Fault.TheVariants as outcomes
 use Rattle.pami_frac.specs.Answers.{Follows}
 use Rattle.pami_edge.specs.declared.line.Line.{Line as Piece}
 use Rattle.pami_edge.specs.Lines.{lines_of, piece, hang, begins_with_feed}
-use Rattle.pami_model.specs.declared.fault.FileFault.{FileFault}
 use Rattle.pami_model.specs.declared.fault.FileKind.{FileKind}
 use Rattle.pami_model.specs.declared.fault.FileKind.TheVariants as kinds
 use Rattle.pami_model.specs.Judgement.{first_of}
@@ -15,14 +14,14 @@ use Rattle.pami_model.specs.Rules.{byte_limit}
 use Rattle.pami_mps.specs.contracts.kind.Section.{the_type}
 use Rattle.pami_mps.specs.declared.kind.Section.{Section}
 use Rattle.pami_mps.specs.declared.kind.Section.TheVariants.{Start, Name, SenseDue, SenseGiven, Rows, Columns, Rhs, Ranges, Limits, End}
-use Rattle.pami_mps.specs.Line.{Line, line_of, text_lines, is_end, section_at}
+use Rattle.pami_mps.specs.Line.{Line, line_of, text_lines, is_end}
 use Rattle.pami_mps.specs.Gather.{Declared}
 use Rattle.pami_mps.specs.Rows.{told_of, row_of}
 use Rattle.pami_mps.specs.Limits.{sides_of}
 use Rattle.pami_mps.specs.Seen.{Seen, seen}
 use Rattle.pami_mps.specs.After.{after}
 use Rattle.pami_mps.specs.Judge.{judge, judge_crossed, ends}
-use Rattle.pami_mps.specs.Mps.{FirstFault, IsRefused, blank, fault_at}
+use Rattle.pami_mps.specs.Mps.{FirstFault, IsRefused, blank}
 use Rattle.pami_mps.specs.Reader.{IsEven, IsRead, placed_at}
 use Rattle.pami_mps.proofs.Whole.{So, here, state_is, line_at, lines_count, stopped, unended}
 

@@ -13,11 +13,11 @@ use Rattle.pami_model.proofs.Judging.{some≢none, both_none}
 use Rattle.pami_mps.specs.declared.kind.Section.{Section}
 use Rattle.pami_mps.specs.declared.kind.Section.TheVariants.{Start, Name, SenseDue, SenseGiven, Rows, Columns, Rhs, Ranges, Limits, End}
 use Rattle.pami_mps.specs.Line.{Line, placed, next, named, settled, begun, rank, section_of, section_at, follows, is_in, given_by}
-use Rattle.pami_mps.specs.Gather.{Declared, Pair, Value, is_sense_line, goal_words, behind_word, sense_words, sense_in, sense_as, sense_of, senses_of, kept_in, free_in, pairs_in, values_in, without_set, names_of}
+use Rattle.pami_mps.specs.Gather.{Declared, is_sense_line, goal_words, behind_word, sense_words, sense_in, sense_as, sense_of, kept_in, free_in, pairs_in, values_in, without_set, names_of}
 use Rattle.pami_mps.specs.Limits.{limits_in}
 use Rattle.pami_mps.specs.Seen.{Given, Seen, given, seen_by, seen}
 use Rattle.pami_mps.specs.After.{after, after_words, after_row, after_sense, after_head, after_section, after_goal}
-use Rattle.pami_mps.specs.Judge.{judge, judge_read, judge_head, judge_section, judge_others, judge_goal, judge_alone, judge_sense, judge_data}
+use Rattle.pami_mps.specs.Judge.{judge, judge_read, judge_head, judge_section, judge_others, judge_goal, judge_sense, judge_data}
 use Rattle.pami_mps.proofs.Columns.{paired, column_line}
 use Rattle.pami_mps.proofs.Limited.{limited, limit_line}
 use Rattle.pami_mps.proofs.Rows.{AreNames, rowed, row_line, names_line}

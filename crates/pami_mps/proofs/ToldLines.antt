@@ -1,5 +1,5 @@
 -- One value of a line of RHS, RANGES or BOUNDS at the row or the column that it names, and two values on one line.
-use Rattle.std.proofs.Common.{◌≡◌, ◌<◌, ℕ, true, List, [], ◌∷◌, length, set, get_or, Option, None, Some, Result, Ok, Err, refl, sym, ap, subst, ◌∙◌}
+use Rattle.std.proofs.Common.{◌≡◌, ◌<◌, ℕ, true, List, [], ◌∷◌, length, set, get_or, Option, None, Some, Result, Ok, Err, sym, ap, subst, ◌∙◌}
 use Rattle.std.specs.Prelude.{OnOk}
 use Rattle.pami_frac.specs.declared.fault.Fault.{Fault}
 use Rattle.pami_frac.specs.Answers.{Follows}

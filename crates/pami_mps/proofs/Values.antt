@@ -9,13 +9,13 @@ use Rattle.pami_algebra.specs.Fraction.{Fraction}
 use Rattle.pami_frac.specs.Decimal.{decimal_value}
 use Rattle.pami_frac.specs.declared.bound.BoundValue.{BoundValue}
 use Rattle.pami_model.specs.declared.list.Row.{Row}
-use Rattle.pami_model.specs.Draft.{new_row, place_of, changed, row_with_bounds}
+use Rattle.pami_model.specs.Draft.{new_row, place_of, row_with_bounds}
 use Rattle.pami_model.specs.Number.{judge_number, judge_limit, limit_value}
 use Rattle.pami_model.specs.Judgement.{wrong_if}
 use Rattle.pami_model.proofs.Judging.{some≢none, both_none, unset}
 use Rattle.pami_mps.specs.declared.kind.Section.{Section}
 use Rattle.pami_mps.specs.declared.kind.Told.{Told}
-use Rattle.pami_mps.specs.Gather.{Declared, Value, Role, Kept, Objective, Dropped, value_words, values_in, column_names, names_of, is_any, role_of, role_by, goal_values, given_for, constant_by, sense_by, places_of, has_cost}
+use Rattle.pami_mps.specs.Gather.{Declared, Value, Role, Objective, Dropped, value_words, values_in, column_names, names_of, is_any, role_of, role_by, goal_values, given_for, constant_by, sense_by, places_of, has_cost}
 use Rattle.pami_mps.specs.Rows.{told_of, row_of, right_by, range_by, bounds_with, plain_bounds, bound_by}
 use Rattle.pami_mps.specs.Limits.{sides_of}
 use Rattle.pami_mps.specs.Seen.{Given, Seen, names_by, columns_of, seen_by}

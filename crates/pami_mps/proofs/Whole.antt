@@ -8,16 +8,16 @@ use Rattle.pami_model.specs.declared.fault.FileKind.{FileKind}
 use Rattle.pami_model.specs.declared.fault.FileKind.TheVariants as kinds
 use Rattle.pami_model.specs.Draft.{Draft, first_crossed}
 use Rattle.pami_model.specs.Contents.{Contents, contents_of}
-use Rattle.pami_model.specs.FirstFault.{AreGood, IsFirstFault}
+use Rattle.pami_model.specs.FirstFault.{AreGood}
 use Rattle.pami_model.specs.Judgement.{first_of, wrong_if}
 use Rattle.pami_model.specs.Rules.{byte_limit}
 use Rattle.pami_model.proofs.FirstFaults as faults
-use Rattle.pami_model.proofs.Judging.{some≢none, none≢some, both_none}
+use Rattle.pami_model.proofs.Judging.{none≢some, both_none}
 use Rattle.pami_mps.specs.declared.kind.Section.{Section}
 use Rattle.pami_mps.specs.declared.kind.Section.TheVariants.{Start, Name, SenseDue, SenseGiven, Rows, Columns, Rhs, Ranges, Limits, End}
 use Rattle.pami_mps.specs.Line.{Line, line_of, text_lines, section_at, section_of, is_end, next, named, begun, settled}
 use Rattle.pami_mps.specs.Seen.{Seen, seen}
-use Rattle.pami_mps.specs.After.{after, after_head, after_section, after_goal, after_words, with_sense}
+use Rattle.pami_mps.specs.After.{after, after_head, after_section, after_words}
 use Rattle.pami_mps.specs.Judge.{judge, judge_read, judge_crossed, judge_line, ends}
 use Rattle.pami_mps.specs.Mps.{Mps, FirstFault, fault_at, wrong_at, judged, line_number, blank}
 use Rattle.pami_mps.specs.Reader.{nothing_seen, IsRead}

@@ -17,7 +17,7 @@ use Rattle.pami_mps.specs.declared.kind.Section.{Section}
 use Rattle.pami_mps.specs.declared.kind.Section.TheVariants.{Start, Name, SenseDue, SenseGiven, Rows, Columns, Rhs, Ranges, Limits, End}
 use Rattle.pami_mps.specs.declared.kind.Told.{Told}
 use Rattle.pami_mps.specs.declared.kind.Sides.{Sides}
-use Rattle.pami_mps.specs.Line.{Line, named, section_of, is_end}
+use Rattle.pami_mps.specs.Line.{Line, section_of, is_end}
 use Rattle.pami_mps.specs.Gather.{Role, Kept, Objective, Dropped, sense_of, role_of, kind_of, is_free, without_set}
 use Rattle.pami_mps.specs.Rows.{plain_bounds, bounds_with, bound_by}
 use Rattle.pami_mps.specs.Limits.{Limit, limits_in, effect, unstated}

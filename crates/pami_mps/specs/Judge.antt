@@ -17,9 +17,9 @@ use Rattle.pami_model.specs.Draft.{place_of, row_fault, column_fault, entry_faul
 use Rattle.pami_model.specs.Number.{judge_number, judge_limit, limit_value}
 use Rattle.pami_model.specs.Refusal.{judge_build}
 use Rattle.pami_mps.specs.declared.kind.LimitKind.{LimitKind}
-use Rattle.pami_mps.specs.declared.kind.LimitKind.TheVariants.{Upper, Lower, Fixed, Unbounded, NoLower, NoUpper}
+use Rattle.pami_mps.specs.declared.kind.LimitKind.TheVariants.{Upper, Lower}
 use Rattle.pami_mps.specs.declared.kind.RowKind.{RowKind}
-use Rattle.pami_mps.specs.declared.kind.RowKind.TheVariants.{Free, AtMost, AtLeast, Equal}
+use Rattle.pami_mps.specs.declared.kind.RowKind.TheVariants.{AtMost, AtLeast}
 use Rattle.pami_mps.specs.declared.kind.Section.{Section}
 use Rattle.pami_mps.specs.declared.kind.Section.TheVariants.{Start, Name, SenseDue, SenseGiven, Rows, Columns, Rhs, Ranges, Limits, End}
 use Rattle.pami_mps.specs.Line.{Line, section_of, follows, is_end, next}

@@ -2,7 +2,6 @@
 use Rattle.std.specs.Prelude.{ℕ, ◌&&◌, Bool, true, false, not, List, [], ◌∷◌, fold, filter, Option, None, Some, if◌then◌else◌, codes}
 use Rattle.std.specs.Str.{bytes_eq}
 use Rattle.pami_algebra.specs.Fraction.{Fraction}
-use Rattle.pami_frac.specs.declared.list.Bounds.{Bounds}
 use Rattle.pami_frac.specs.declared.bound.BoundValue.{BoundValue}
 use Rattle.pami_frac.specs.declared.bound.BoundValue.TheVariants.{Finite}
 use Rattle.pami_model.specs.Draft.{zero, nonnegative}

@@ -1,5 +1,5 @@
 -- The bytes are an MPS text of a model, or have a first fault.
-use Rattle.std.specs.Prelude.{◌≡◌, ℕ, ◌+◌, ◌≤◌, not, List, [], length, slice_index_or, take, Option, Some, None, Result, Ok, Err, if◌then◌else◌, nat_lt, false}
+use Rattle.std.specs.Prelude.{◌≡◌, ℕ, ◌+◌, ◌≤◌, not, List, [], length, slice_index_or, take, Option, Some, Result, Ok, Err, if◌then◌else◌, nat_lt, false}
 use Rattle.pami_frac.specs.declared.fault.Fault.{Fault}
 use Rattle.pami_frac.specs.declared.fault.Fault.TheVariants as faults
 use Rattle.pami_model.specs.declared.fault.FileFault.{FileFault}

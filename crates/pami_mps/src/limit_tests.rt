@@ -133,7 +133,7 @@ fn names_at_their_limit(rt: HostRuntime) -> Result<(), Fail> {
 fn bytes_at_their_limit(rt: HostRuntime) -> Result<(), Fail> {
     let alloc = rt.alloc();
     let mut text = Vec::new(alloc);
-    while text.len() < BYTE_LIMIT {
+    for _ in 0..BYTE_LIMIT {
         text.push(b'*')?;
     }
     let found = fault_of(read_mps(alloc, text.as_slice()));

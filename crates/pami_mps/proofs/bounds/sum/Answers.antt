@@ -1,5 +1,5 @@
 use Rattle.pami_frac.proofs.Outcomes.{add_value}
-use Rattle.std.proofs.Common.{sym, ◌∙◌}
+use Rattle.std.proofs.Common.{sym}
 use Rattle.pami_mps.proofs.bounds.sum.Goals as goal
 
 pub returns-in-Ok-clause-value : goal.returns-in-Ok-clause-value

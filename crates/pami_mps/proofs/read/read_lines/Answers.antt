@@ -1,4 +1,4 @@
-use Rattle.std.proofs.Common.{◌≡◌, ◌<◌, ◌≤◌, ◌+◌, ℕ, Err, length, map, refl, sym, ap, subst, ◌∙◌, arith}
+use Rattle.std.proofs.Common.{◌≡◌, ◌≤◌, ◌+◌, ℕ, Err, length, map, refl, sym, ap, subst, ◌∙◌, arith}
 use Rattle.pami_frac.specs.declared.fault.Fault.{Fault}
 use Rattle.pami_model.specs.declared.fault.FileFault.{FileFault}
 use Rattle.pami_edge.specs.Lines.{lines_of, piece}
