@@ -69,7 +69,8 @@ pub place_none : (n : List ℕ) (xs : List (List ℕ)) → place_of n xs ≡ Non
 place_none n [] h = refl
 place_none n (x ∷ xs) h = by (place_none n xs) (bytes_eq n x) (place_of n xs) refl (sym (place_step n x xs) ∙ h)
   where
-    by : (place_of n xs ≡ None → list_any (bytes_eq n) xs ≡ false) → (b : Bool) (o : Option ℕ) → place_of n xs ≡ o → cond b (Some 0) (option_map suc o) ≡ None → (b || list_any (bytes_eq n) xs) ≡ false
+    by : (place_of n xs ≡ None → list_any (bytes_eq n) xs ≡ false) → (b : Bool) (o : Option ℕ) → place_of n xs ≡ o
+        → cond b (Some 0) (option_map suc o) ≡ None → (b || list_any (bytes_eq n) xs) ≡ false
     by rest true o f g = absurd (some≢none g)
     by rest false None f g = rest f
     by rest false (Some j) f g = absurd (some≢none g)
@@ -92,7 +93,8 @@ pub place_more : (n : List ℕ) (xs ys : List (List ℕ)) → list_any (bytes_eq
 place_more n [] ys h = absurd (true≢false (sym h))
 place_more n (x ∷ xs) ys h = place_step n x (xs ++ ys) ∙ by (place_more n xs ys) (bytes_eq n x) h ∙ sym (place_step n x xs)
   where
-    by : (list_any (bytes_eq n) xs ≡ true → place_of n (xs ++ ys) ≡ place_of n xs) → (b : Bool) → (b || list_any (bytes_eq n) xs) ≡ true → cond b (Some 0) (option_map suc (place_of n (xs ++ ys))) ≡ cond b (Some 0) (option_map suc (place_of n xs))
+    by : (list_any (bytes_eq n) xs ≡ true → place_of n (xs ++ ys) ≡ place_of n xs) → (b : Bool) → (b || list_any (bytes_eq n) xs) ≡ true
+        → cond b (Some 0) (option_map suc (place_of n (xs ++ ys))) ≡ cond b (Some 0) (option_map suc (place_of n xs))
     by rest true g = refl
     by rest false g = ap (option_map suc) (rest g)
 
@@ -117,7 +119,8 @@ last_split n (x ∷ xs) i h e = by (last_split n xs) (place_cons n x xs i h)
     only (y ∷ ys) g b = absurd (omega arith)
 
     by : ((j : ℕ) → place_of n xs ≡ Some j → j + 1 ≡ length xs → (ms : List (List ℕ)) × IsLast n xs ms)
-        → ((bytes_eq n x ≡ true) × (i ≡ 0)) ⊎ ((bytes_eq n x ≡ false) × ((j : ℕ) × (i ≡ suc j) × (place_of n xs ≡ Some j))) → (ms : List (List ℕ)) × IsLast n (x ∷ xs) ms
+        → ((bytes_eq n x ≡ true) × (i ≡ 0)) ⊎ ((bytes_eq n x ≡ false) × ((j : ℕ) × (i ≡ suc j) × (place_of n xs ≡ Some j)))
+        → (ms : List (List ℕ)) × IsLast n (x ∷ xs) ms
     by more (inl p) = ([], only xs (omega (arith, p.1)) p.0)
     by more (inr p) =
         let rest = more p.1.0 p.1.2 (omega (arith, p.1.1)) in
@@ -138,7 +141,8 @@ length_changed zero f (x ∷ xs) = refl
 length_changed (suc i) f (x ∷ xs) = ap length (changed_step i f x xs) ∙ ap suc (length_changed i f xs)
 
 -- items of other names stay
-pub map_missed : {A B : Type 0} (key : A → List ℕ) (f g : A → B) (n : List ℕ) → ((x : A) → bytes_eq n (key x) ≡ false → g x ≡ f x) → (xs : List A) → list_any (bytes_eq n) (map key xs) ≡ false → map g xs ≡ map f xs
+pub map_missed : {A B : Type 0} (key : A → List ℕ) (f g : A → B) (n : List ℕ) → ((x : A) → bytes_eq n (key x) ≡ false → g x ≡ f x) → (xs : List A)
+    → list_any (bytes_eq n) (map key xs) ≡ false → map g xs ≡ map f xs
 map_missed key f g n missed [] e = refl
 map_missed key f g n missed (x ∷ xs) e =
     let parts = or_parts (bytes_eq n (key x)) (list_any (bytes_eq n) (map key xs)) e in
@@ -149,7 +153,8 @@ module _ {A B : Type 0} (key : A → List ℕ) (f g : A → B) (n : List ℕ) (h
     (shift : (x : A) (xs : List A) (i : ℕ) → h (x ∷ xs) (suc i) ≡ h xs i)
     (hit : (x : A) (xs : List A) → bytes_eq n (key x) ≡ true → g x ≡ h (x ∷ xs) 0 (f x))
     (missed : (x : A) → bytes_eq n (key x) ≡ false → g x ≡ f x) where
-  none_after : (x : A) (xs : List A) → bytes_eq n (key x) ≡ true → AllByRecursion (λ y. bytes_eq (key x) y ≡ false) (map key xs) → list_any (bytes_eq n) (map key xs) ≡ false
+  none_after : (x : A) (xs : List A) → bytes_eq n (key x) ≡ true → AllByRecursion (λ y. bytes_eq (key x) y ≡ false) (map key xs)
+      → list_any (bytes_eq n) (map key xs) ≡ false
   none_after x [] e d = refl
   none_after x (y ∷ ys) e d = rw (subst (λ (m : List ℕ). bytes_eq m (key y) ≡ false) (sym (same n (key x) e)) d.0, none_after x ys e d.1) refl
 
@@ -163,5 +168,6 @@ module _ {A B : Type 0} (key : A → List ℕ) (f g : A → B) (n : List ℕ) (h
           → map g (x ∷ xs) ≡ changed i (h (x ∷ xs) i) (map f (x ∷ xs))
       by rest (inl p) = rw (p.1, hit x xs p.0, map_missed key f g n missed xs (none_after x xs p.0 d.0)) refl
       by rest (inr p) =
-          ap (λ (y : B). y ∷ map g xs) (missed x p.0) ∙ ap (λ (ys : List B). f x ∷ ys) (rest p.1.0 p.1.2 ∙ ap (λ (q : B → B). changed p.1.0 q (map f xs)) (sym (shift x xs p.1.0)))
+          ap (λ (y : B). y ∷ map g xs) (missed x p.0)
+          ∙ ap (λ (ys : List B). f x ∷ ys) (rest p.1.0 p.1.2 ∙ ap (λ (q : B → B). changed p.1.0 q (map f xs)) (sym (shift x xs p.1.0)))
           ∙ sym (changed_step p.1.0 (h (x ∷ xs) (suc p.1.0)) (f x) (map f xs)) ∙ ap (λ (k : ℕ). changed k (h (x ∷ xs) k) (f x ∷ map f xs)) (sym p.1.1)

@@ -21,14 +21,18 @@ module _ (s : Seen) (ws : List (List ℕ)) (c r v q w : List ℕ) where
       let k = judge_pair (with_pair r v (with_column c s)) q w in
       ap (first_of a) (first_of-assoc b d k) ∙ first_of-assoc a (first_of b d) k
 
-  pub pair_first : (f : Fault FileKind) → ws ≡ c ∷ r ∷ v ∷ q ∷ w ∷ [] → Follows {A = Unit {0}} (judge_column s (c ∷ r ∷ v ∷ [])) (Err f) → Follows {A = Unit {0}} (judge_column s ws) (Err f)
-  pair_first f e h = subst (λ (j : Option FileKind). Follows {A = Unit {0}} j (Err f)) (sym (ap (judge_column s) e ∙ apart)) (sooner (Unit {0}) (judge_column s (c ∷ r ∷ v ∷ [])) _ f h)
+  pub pair_first : (f : Fault FileKind) → ws ≡ c ∷ r ∷ v ∷ q ∷ w ∷ [] → Follows {A = Unit {0}} (judge_column s (c ∷ r ∷ v ∷ [])) (Err f)
+      → Follows {A = Unit {0}} (judge_column s ws) (Err f)
+  pair_first f e h = subst (λ (j : Option FileKind). Follows {A = Unit {0}} j (Err f)) (sym (ap (judge_column s) e ∙ apart))
+      (sooner (Unit {0}) (judge_column s (c ∷ r ∷ v ∷ [])) _ f h)
 
-  pub pair_second : (x : Result (Unit {0}) (Fault FileKind)) (mid : Seen) → ws ≡ c ∷ r ∷ v ∷ q ∷ w ∷ [] → judge_column s (c ∷ r ∷ v ∷ []) ≡ None → mid ≡ after_column s (c ∷ r ∷ v ∷ []) → Follows (judge_pair mid q w) x → Follows (judge_column s ws) x
+  pub pair_second : (x : Result (Unit {0}) (Fault FileKind)) (mid : Seen) → ws ≡ c ∷ r ∷ v ∷ q ∷ w ∷ [] → judge_column s (c ∷ r ∷ v ∷ []) ≡ None
+      → mid ≡ after_column s (c ∷ r ∷ v ∷ []) → Follows (judge_pair mid q w) x → Follows (judge_column s ws) x
   pair_second x mid e h m g = subst (λ (j : Option FileKind). Follows j x) (sym (ap (judge_column s) e ∙ apart))
       (later (judge_column s (c ∷ r ∷ v ∷ [])) _ x h (subst (λ (t : Seen). Follows (judge_pair t q w) x) m g))
 
-  pub pair_second_after : (x : Result (Unit {0}) (Fault FileKind)) (new mid : Seen) → ws ≡ c ∷ r ∷ v ∷ q ∷ w ∷ [] → mid ≡ after_column s (c ∷ r ∷ v ∷ []) → OnOk x (new ≡ with_pair q w mid) → OnOk x (new ≡ after_column s ws)
+  pub pair_second_after : (x : Result (Unit {0}) (Fault FileKind)) (new mid : Seen) → ws ≡ c ∷ r ∷ v ∷ q ∷ w ∷ [] → mid ≡ after_column s (c ∷ r ∷ v ∷ [])
+      → OnOk x (new ≡ with_pair q w mid) → OnOk x (new ≡ after_column s ws)
   pair_second_after (Ok y) new mid e m h = h ∙ ap (with_pair q w) m ∙ ap (after_column s) (sym e)
   pair_second_after (Err f) new mid e m h = tt
 

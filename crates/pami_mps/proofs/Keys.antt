@@ -27,7 +27,8 @@ module _ (q : List ℕ) where
   place_of-names ks i = let n = position_or_len-names ks i in cond (nat_lt n (length-map ks (λ name. name.items) i)) (Some n) None
 
 -- a new name goes last
-pub insert_key-new : (ks : List (Vec ℕ)) (k : Vec ℕ) → list_any (bytes_eq k.items) (names_in ks) ≡ false → names_in (insert_key key_eq ks k) ≡ names_in ks ++ k.items ∷ []
+pub insert_key-new : (ks : List (Vec ℕ)) (k : Vec ℕ) → list_any (bytes_eq k.items) (names_in ks) ≡ false
+    → names_in (insert_key key_eq ks k) ≡ names_in ks ++ k.items ∷ []
 insert_key-new ks k new = ap (λ (b : Bool). names_in (cond b ks (ks ++ k ∷ []))) (sym (list_any-names k.items ks) ∙ new) ∙ pushed ks
   where
     pushed : (xs : List (Vec ℕ)) → names_in (xs ++ k ∷ []) ≡ names_in xs ++ k.items ∷ []

@@ -52,7 +52,8 @@ step s l = effect l.kind l.value s
 
 -- one line more at a name, or at another
 
-sides_hit : (limits : List Limit) (l : Limit) (n : List ℕ) → bytes_eq l.column n ≡ true → sides_of (limits ++ l ∷ []) n ≡ effect l.kind l.value (sides_of limits n)
+sides_hit : (limits : List Limit) (l : Limit) (n : List ℕ) → bytes_eq l.column n ≡ true
+    → sides_of (limits ++ l ∷ []) n ≡ effect l.kind l.value (sides_of limits n)
 sides_hit limits l n e = ap (fold step unstated) (filter-append (λ (x : Limit). bytes_eq x.column n) limits (l ∷ []))
     ∙ ap (λ (b : Bool). fold step unstated (filter (λ (x : Limit). bytes_eq x.column n) limits ++ cond b (l ∷ []) [])) e
     ∙ fold-append step unstated (filter (λ (x : Limit). bytes_eq x.column n) limits) (l ∷ [])
@@ -95,14 +96,18 @@ module _ (section : Section) (g : Given) (limits : List Limit) where
     to_column : (i : ℕ) → place_of l.column ns ≡ Some i → with_sides i (sides_by ns i) now ≡ behind
     to_column i e =
         let here : place_of l.column (map (λ (n : List ℕ). n) ns) ≡ Some i = ap (place_of l.column) (map-id ns) ∙ e in
-        let apart : IsDistinct bytes_eq (map (λ (n : List ℕ). n) ns) = Rattle.std.proofs.Common.subst (IsDistinct bytes_eq) (sym (map-id ns)) (once_distinct (map (λ (p : Pair). p.column) g.pairs)) in
-        let column_hit : (n : List ℕ) (ms : List (List ℕ)) → bytes_eq l.column n ≡ true → column_by more n ≡ column_with_bounds (sides_by (n ∷ ms) 0).bounds (column_by limits n) =
+        let apart : IsDistinct bytes_eq (map (λ (n : List ℕ). n) ns) =
+        Rattle.std.proofs.Common.subst (IsDistinct bytes_eq) (sym (map-id ns)) (once_distinct (map (λ (p : Pair). p.column) g.pairs)) in
+        let column_hit : (n : List ℕ) (ms : List (List ℕ)) → bytes_eq l.column n ≡ true
+        → column_by more n ≡ column_with_bounds (sides_by (n ∷ ms) 0).bounds (column_by limits n) =
         (λ n ms h. ap (λ (s : Sides). column_of names g.pairs s.bounds n) (sides_hit limits l n h)) in
         let column_missed : (n : List ℕ) → bytes_eq l.column n ≡ false → column_by more n ≡ column_by limits n =
         (λ n h. ap (λ (s : Sides). column_of names g.pairs s.bounds n) (sides_missed limits l n h)) in
         let hit : (n : List ℕ) (ms : List (List ℕ)) → bytes_eq l.column n ≡ true → sides_of more n ≡ sides_by (n ∷ ms) 0 = (λ n ms h. sides_hit limits l n h) in
-        let sides = sym (map_changed (λ (n : List ℕ). n) (sides_of limits) (sides_of more) l.column (λ ms k. (λ (u : Sides). sides_by ms k)) (λ x xs k. refl) hit (sides_missed limits l) ns i here apart) in
-        let columns = sym (map_changed (λ (n : List ℕ). n) (column_by limits) (column_by more) l.column (λ ms k. column_with_bounds (sides_by ms k).bounds) (λ x xs k. refl) column_hit column_missed ns i here apart) in
+        let sides = sym (map_changed (λ (n : List ℕ). n) (sides_of limits) (sides_of more) l.column (λ ms k. (λ (u : Sides). sides_by ms k))
+        (λ x xs k. refl) hit (sides_missed limits l) ns i here apart) in
+        let columns = sym (map_changed (λ (n : List ℕ). n) (column_by limits) (column_by more) l.column (λ ms k. column_with_bounds (sides_by ms k).bounds)
+        (λ x xs k. refl) column_hit column_missed ns i here apart) in
         (λ k. with_columns section g (sides k) (columns k))
 
     pub limit_more : judge_known now l.column ≡ None → with_limit l now ≡ behind
@@ -120,26 +125,30 @@ module _ (section : Section) (g : Given) (limits : List Limit) where
       → seen_by section (limited g (limits ++ limit column kind (limit_value value) ∷ [])) ≡ with_limits (limit column kind (limit_value value) ∷ []) now
   limit_valued kind column value j = limit_one column kind (limit_value value) (both_none (judge_known now column) _ j).0
 
-  by_value : (kind : LimitKind) (words : List (List ℕ)) → judge_valued now kind words ≡ None → seen_by section (limited g (limits ++ valued_in kind words)) ≡ with_limits (valued_in kind words) now
+  by_value : (kind : LimitKind) (words : List (List ℕ)) → judge_valued now kind words ≡ None
+      → seen_by section (limited g (limits ++ valued_in kind words)) ≡ with_limits (valued_in kind words) now
   by_value kind [] j = absurd (some≢none j)
   by_value kind (a ∷ []) j = absurd (some≢none j)
   by_value kind (column ∷ value ∷ []) j = limit_valued kind column value j
   by_value kind (set ∷ column ∷ value ∷ []) j = limit_valued kind column value j
   by_value kind (a ∷ b ∷ c ∷ d ∷ words) j = absurd (some≢none j)
 
-  by_mark : (kind : LimitKind) (words : List (List ℕ)) → judge_unvalued now words ≡ None → seen_by section (limited g (limits ++ unvalued_in kind words)) ≡ with_limits (unvalued_in kind words) now
+  by_mark : (kind : LimitKind) (words : List (List ℕ)) → judge_unvalued now words ≡ None
+      → seen_by section (limited g (limits ++ unvalued_in kind words)) ≡ with_limits (unvalued_in kind words) now
   by_mark kind [] j = absurd (some≢none j)
   by_mark kind (column ∷ []) j = limit_one column kind (Finite zero) j
   by_mark kind (set ∷ column ∷ []) j = limit_one column kind (Finite zero) j
   by_mark kind (set ∷ column ∷ unread ∷ []) j = limit_one column kind (Finite zero) j
   by_mark kind (a ∷ b ∷ c ∷ d ∷ words) j = absurd (some≢none j)
 
-  by_kind : (o : Option LimitKind) (words : List (List ℕ)) → judge_limit_kind now o words ≡ None → seen_by section (limited g (limits ++ limit_as o words)) ≡ with_limits (limit_as o words) now
+  by_kind : (o : Option LimitKind) (words : List (List ℕ)) → judge_limit_kind now o words ≡ None
+      → seen_by section (limited g (limits ++ limit_as o words)) ≡ with_limits (limit_as o words) now
   by_kind None words j = absurd (some≢none j)
   by_kind (Some kind) words j = by (has_value kind) j
     where
       by : (b : Bool) → cond b (judge_valued now kind words) (judge_unvalued now words) ≡ None
-          → seen_by section (limited g (limits ++ cond b (valued_in kind words) (unvalued_in kind words))) ≡ with_limits (cond b (valued_in kind words) (unvalued_in kind words)) now
+          → seen_by section (limited g (limits ++ cond b (valued_in kind words) (unvalued_in kind words))) ≡ with_limits
+          (cond b (valued_in kind words) (unvalued_in kind words)) now
       by true j = by_value kind words j
       by false j = by_mark kind words j
 

@@ -27,9 +27,11 @@ use Rattle.pami_mps.proofs.Whole.{So, here, state_is, line_at, lines_count, stop
 
 -- pieces of the bytes
 
-pub taken_at : (vs : List Piece) (bytes : List ℕ) (i : ℕ) (d : Piece) (text : List ℕ) → map (piece bytes) vs ≡ lines_of bytes → i < length vs → text ≡ piece bytes (get_or vs i d) → line_of text ≡ get_or (text_lines bytes) i blank
+pub taken_at : (vs : List Piece) (bytes : List ℕ) (i : ℕ) (d : Piece) (text : List ℕ) → map (piece bytes) vs ≡ lines_of bytes → i < length vs
+    → text ≡ piece bytes (get_or vs i d) → line_of text ≡ get_or (text_lines bytes) i blank
 taken_at vs bytes i d text e lt is =
-    ap line_of (is ∙ sym (get_or-map (piece bytes) vs i d (piece bytes d) lt)) ∙ line_at (map (piece bytes) vs) bytes i (piece bytes d) e (rw (length-map vs (piece bytes)) lt)
+    ap line_of (is ∙ sym (get_or-map (piece bytes) vs i d (piece bytes d) lt))
+    ∙ line_at (map (piece bytes) vs) bytes i (piece bytes d) e (rw (length-map vs (piece bytes)) lt)
 
 pub pieces_count : (vs : List Piece) (bytes : List ℕ) → map (piece bytes) vs ≡ lines_of bytes → length (text_lines bytes) ≡ length vs
 pieces_count vs bytes e = lines_count (map (piece bytes) vs) bytes e ∙ length-map vs (piece bytes)
@@ -46,7 +48,8 @@ lines_few : (bytes : List ℕ) → length (lines_of bytes) ≤ length bytes
 lines_few [] = omega arith
 lines_few (b ∷ bytes) = by (lines_few bytes) (nat_eq b 10) (nat_eq b 13 && begins_with_feed bytes)
   where
-    by : length (lines_of bytes) ≤ length bytes → (p q : Bool) → length (cond p ([] ∷ lines_of bytes) (cond q (lines_of bytes) (hang b (lines_of bytes)))) ≤ length (b ∷ bytes)
+    by : length (lines_of bytes) ≤ length bytes → (p q : Bool)
+        → length (cond p ([] ∷ lines_of bytes) (cond q (lines_of bytes) (hang b (lines_of bytes)))) ≤ length (b ∷ bytes)
     by few true q = omega arith
     by few false true = omega arith
     by few false false = let h : length (hang b (lines_of bytes)) ≤ length (lines_of bytes) + 1 = hang_count b (lines_of bytes) in omega arith
@@ -89,7 +92,8 @@ seen_even ls =
     let g = Rattle.pami_mps.specs.Seen.given ls in
     record {
       told = length-map g.rows (told_of g.values g.ranges) ∙ sym (length-map g.rows (row_of g.values g.ranges));
-      sides = length-map (Rattle.pami_mps.specs.Gather.column_names g.pairs) (sides_of g.limits) ∙ sym (length-map (Rattle.pami_mps.specs.Gather.column_names g.pairs) _);
+      sides = length-map (Rattle.pami_mps.specs.Gather.column_names g.pairs) (sides_of g.limits)
+          ∙ sym (length-map (Rattle.pami_mps.specs.Gather.column_names g.pairs) _);
     }
 
 -- the lines before a place are good, and ENDATA isn't among them
@@ -103,9 +107,11 @@ module _ (bytes : List ℕ) (i : ℕ) (s : Seen) (is : Open (text_lines bytes) i
 
   module _ (l : Line) (lt : i < length (text_lines bytes)) (e : l ≡ get_or (text_lines bytes) i blank) (fits : length bytes ≤ byte_limit) where
     -- a line that isn't taken
-    pub refused : (A : Type 0) (f : Fault FileKind) (n : ℕ) → n ≡ i + 1 → Follows {A = Unit {0}} (judge s l) (Err f) → IsRefused {A = A} bytes (Err (placed_at n f))
+    pub refused : (A : Type 0) (f : Fault FileKind) (n : ℕ) → n ≡ i + 1 → Follows {A = Unit {0}} (judge s l) (Err f)
+        → IsRefused {A = A} bytes (Err (placed_at n f))
     refused A (outcomes.Named k) n c h =
-        stopped bytes fits i k lt is.so.good (here (text_lines bytes) i s l is.so e (Some k) (ap (λ (j : Option FileKind). first_of j (judge_crossed (ends s l) s)) h)) n c
+        stopped bytes fits i k lt is.so.good (here (text_lines bytes) i s l is.so e (Some k)
+        (ap (λ (j : Option FileKind). first_of j (judge_crossed (ends s l) s)) h)) n c
     refused A outcomes.OutOfMemory n c h = tt
 
     -- ENDATA
@@ -123,8 +129,10 @@ module _ (bytes : List ℕ) (i : ℕ) (s : Seen) (is : Open (text_lines bytes) i
     }
 
   -- no ENDATA
-  pub unended_at : length bytes ≤ byte_limit → i ≡ length (text_lines bytes) → (n : ℕ) → n ≡ i + 1 → FirstFault bytes (record { line = n; kind = kinds.EndMissing })
+  pub unended_at : length bytes ≤ byte_limit → i ≡ length (text_lines bytes) → (n : ℕ) → n ≡ i + 1
+      → FirstFault bytes (record { line = n; kind = kinds.EndMissing })
   unended_at fits whole n c =
       let at : So (text_lines bytes) (length (text_lines bytes)) s = subst (λ (k : ℕ). So (text_lines bytes) k s) whole is.so in
-      let all : s ≡ seen (text_lines bytes) = at.state ∙ ap seen (Rattle.std.proofs.lemmas.List.take_all (length (text_lines bytes)) (text_lines bytes) (omega arith)) in
+      let all : s ≡ seen (text_lines bytes) = at.state
+      ∙ ap seen (Rattle.std.proofs.lemmas.List.take_all (length (text_lines bytes)) (text_lines bytes) (omega arith)) in
       unended bytes fits at.good (ap (λ (x : Seen). is_end x.section) (sym all) ∙ is.open_still) n (c ∙ ap (λ (k : ℕ). k + 1) whole)

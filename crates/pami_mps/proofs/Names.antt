@@ -47,8 +47,10 @@ module _ (c : List ℕ) where
   any_from (x ∷ xs) seen = any_from xs (step seen x) ∙ by (list_any (bytes_eq x) seen) refl
     where
       by : (b : Bool) → list_any (bytes_eq x) seen ≡ b
-          → (list_any (bytes_eq c) (cond b seen (seen ++ x ∷ [])) || list_any (bytes_eq c) xs) ≡ (list_any (bytes_eq c) seen || (bytes_eq c x || list_any (bytes_eq c) xs))
-      by false e = ap (λ (z : Bool). z || list_any (bytes_eq c) xs) (list_any-append (bytes_eq c) seen (x ∷ [])) ∙ regroup (list_any (bytes_eq c) seen) (bytes_eq c x) (list_any (bytes_eq c) xs)
+          → (list_any (bytes_eq c) (cond b seen (seen ++ x ∷ [])) || list_any (bytes_eq c) xs) ≡
+          (list_any (bytes_eq c) seen || (bytes_eq c x || list_any (bytes_eq c) xs))
+      by false e = ap (λ (z : Bool). z || list_any (bytes_eq c) xs) (list_any-append (bytes_eq c) seen (x ∷ []))
+          ∙ regroup (list_any (bytes_eq c) seen) (bytes_eq c x) (list_any (bytes_eq c) xs)
         where
           regroup : (a b d : Bool) → ((a || (b || false)) || d) ≡ (a || (b || d))
           regroup true b d = refl
@@ -56,7 +58,8 @@ module _ (c : List ℕ) where
           regroup false false d = refl
       by true e = known (bytes_eq c x) refl
         where
-          known : (b : Bool) → bytes_eq c x ≡ b → (list_any (bytes_eq c) seen || list_any (bytes_eq c) xs) ≡ (list_any (bytes_eq c) seen || (b || list_any (bytes_eq c) xs))
+          known : (b : Bool) → bytes_eq c x ≡ b → (list_any (bytes_eq c) seen || list_any (bytes_eq c) xs) ≡
+              (list_any (bytes_eq c) seen || (b || list_any (bytes_eq c) xs))
           known false f = refl
           known true f =
               let g : list_any (bytes_eq c) seen ≡ true = subst (λ (y : List ℕ). list_any (bytes_eq y) seen ≡ true) (sym (same c x f)) e in
@@ -84,11 +87,13 @@ pub filter_other : (n : List ℕ) (pairs : List Pair) (p : Pair) → bytes_eq p.
 filter_other n [] p e = rw e refl
 filter_other n (x ∷ pairs) p e = by (bytes_eq x.column n) (filter_other n pairs p e)
   where
-    by : (b : Bool) → filter (is_of n) (pairs ++ p ∷ []) ≡ filter (is_of n) pairs → cond b (x ∷ filter (is_of n) (pairs ++ p ∷ [])) (filter (is_of n) (pairs ++ p ∷ [])) ≡ cond b (x ∷ filter (is_of n) pairs) (filter (is_of n) pairs)
+    by : (b : Bool) → filter (is_of n) (pairs ++ p ∷ []) ≡ filter (is_of n) pairs
+        → cond b (x ∷ filter (is_of n) (pairs ++ p ∷ [])) (filter (is_of n) (pairs ++ p ∷ [])) ≡ cond b (x ∷ filter (is_of n) pairs) (filter (is_of n) pairs)
     by true h = ap (λ (ps : List Pair). x ∷ ps) h
     by false h = h
 
-pub filter_one : (n : List ℕ) (pairs : List Pair) (p : Pair) → bytes_eq p.column n ≡ true → filter (is_of n) (pairs ++ p ∷ []) ≡ filter (is_of n) pairs ++ p ∷ []
+pub filter_one : (n : List ℕ) (pairs : List Pair) (p : Pair) → bytes_eq p.column n ≡ true
+    → filter (is_of n) (pairs ++ p ∷ []) ≡ filter (is_of n) pairs ++ p ∷ []
 filter_one n pairs p e = filter-append (is_of n) pairs (p ∷ []) ∙ rw e refl
 
 pub filter_none : (n : List ℕ) (pairs : List Pair) → list_any (bytes_eq n) (map (λ (p : Pair). p.column) pairs) ≡ false → filter (is_of n) pairs ≡ []
@@ -107,7 +112,8 @@ pub rows_back : (values ranges : List Value) (rows : List Declared) → names_of
 rows_back values ranges [] = refl
 rows_back values ranges (r ∷ rows) = ap (λ (ns : List (List ℕ)). r.name ∷ ns) (rows_back values ranges rows)
 
-pub columns_back : (names : Names) (pairs : List Pair) (limits : List Limit) (ns : List (List ℕ)) → names_of_columns (map (λ n. column_of names pairs (sides_of limits n).bounds n) ns) ≡ ns
+pub columns_back : (names : Names) (pairs : List Pair) (limits : List Limit) (ns : List (List ℕ))
+    → names_of_columns (map (λ n. column_of names pairs (sides_of limits n).bounds n) ns) ≡ ns
 columns_back names pairs limits [] = refl
 columns_back names pairs limits (n ∷ ns) = ap (λ (ms : List (List ℕ)). n ∷ ms) (columns_back names pairs limits ns)
 

@@ -19,20 +19,28 @@ use Rattle.pami_mps.specs.After.{role_for}
 use Rattle.pami_mps.specs.Judge.{judge_free, judge_kept}
 
 module _ (s : Seen) (name : List ℕ) (short : length name ≤ name_limit) where
-  pub free_judged : (a b : Bool) → list_any (bytes_eq name) s.free ≡ a → list_any (bytes_eq name) (names_of_rows s.draft.rows) ≡ b → judge_free s name ≡ wrong_if (a || b) kinds.DuplicateRow
+  pub free_judged : (a b : Bool) → list_any (bytes_eq name) s.free ≡ a → list_any (bytes_eq name) (names_of_rows s.draft.rows) ≡ b
+      → judge_free s name ≡ wrong_if (a || b) kinds.DuplicateRow
   free_judged a b e f =
-      ap (λ (x : Bool). first_of (wrong_if x kinds.NameLong) (wrong_if (list_any (bytes_eq name) s.free || list_any (bytes_eq name) (names_of_rows s.draft.rows)) kinds.DuplicateRow)) (le-ltb name_limit (length name) short)
+      ap (λ (x : Bool). first_of (wrong_if x kinds.NameLong) (wrong_if
+      (list_any (bytes_eq name) s.free || list_any (bytes_eq name) (names_of_rows s.draft.rows)) kinds.DuplicateRow)) (le-ltb name_limit
+      (length name) short)
       ∙ ap (λ (x : Bool). wrong_if (x || list_any (bytes_eq name) (names_of_rows s.draft.rows)) kinds.DuplicateRow) e
       ∙ ap (λ (x : Bool). wrong_if (a || x) kinds.DuplicateRow) f
 
-  pub kept_judged : (a : Bool) → list_any (bytes_eq name) s.free ≡ a → judge_kept s name ≡ first_of (wrong_if a kinds.DuplicateRow) (judge_build (row_fault s.draft name))
+  pub kept_judged : (a : Bool) → list_any (bytes_eq name) s.free ≡ a
+      → judge_kept s name ≡ first_of (wrong_if a kinds.DuplicateRow) (judge_build (row_fault s.draft name))
   kept_judged a e =
-      ap (λ (x : Bool). first_of (wrong_if x kinds.NameLong) (first_of (wrong_if (list_any (bytes_eq name) s.free) kinds.DuplicateRow) (judge_build (row_fault s.draft name)))) (le-ltb name_limit (length name) short)
+      ap (λ (x : Bool). first_of (wrong_if x kinds.NameLong) (first_of (wrong_if (list_any (bytes_eq name) s.free) kinds.DuplicateRow)
+      (judge_build (row_fault s.draft name)))) (le-ltb name_limit (length name) short)
       ∙ ap (λ (x : Bool). first_of (wrong_if x kinds.DuplicateRow) (judge_build (row_fault s.draft name))) e
 
-  pub kept_refused : (A : Type 0) (f : Fault BuildFault) (g : Fault FileKind) → list_any (bytes_eq name) s.free ≡ false → g ≡ widened f → Follows {A = A} (row_fault s.draft name) (Err f) → Follows {A = Unit {0}} (judge_kept s name) (Err g)
+  pub kept_refused : (A : Type 0) (f : Fault BuildFault) (g : Fault FileKind) → list_any (bytes_eq name) s.free ≡ false → g ≡ widened f
+      → Follows {A = A} (row_fault s.draft name) (Err f) → Follows {A = Unit {0}} (judge_kept s name) (Err g)
   kept_refused A f g e w h =
-      (let r : Result (Unit {0}) (Fault FileKind) = Err g in followed r (kept_judged false e) (subst (λ (x : Fault FileKind). Follows {A = Unit {0}} (judge_build (row_fault s.draft name)) (Err x)) (sym w) (refused_by A (Unit {0}) (row_fault s.draft name) f h)))
+      (let r : Result (Unit {0}) (Fault FileKind) =
+      Err g in followed r (kept_judged false e) (subst (λ (x : Fault FileKind). Follows {A = Unit {0}} (judge_build (row_fault s.draft name)) (Err x))
+      (sym w) (refused_by A (Unit {0}) (row_fault s.draft name) f h)))
 
   pub kept_taken : list_any (bytes_eq name) s.free ≡ false → row_fault s.draft name ≡ None → judge_kept s name ≡ None
   kept_taken e h = kept_judged false e ∙ ap judge_build h

@@ -76,7 +76,9 @@ module _ (section : Section) (g : Given) (rows : List Declared) (free : List (Li
       let out = map-append (row_of [] []) rows (d ∷ []) in
       (λ i. declared section g (all i) (told i) (out i) (constant_by (goal_values (all i) [])) (is_any (goal_values (all i) [])))
       ∙ ap (λ (b : Bool). cond b (record old { free = free ++ name ∷ [] })
-      (declared section g free (map (told_of [] []) rows ++ new_told kind ∷ []) (map (row_of [] []) rows ++ draft.new_row name (plain_bounds kind (Some draft.zero)) ∷ []) (constant_by (goal_values free [])) (is_any (goal_values free [])))) (sym e)
+      (declared section g free (map (told_of [] []) rows ++ new_told kind ∷ [])
+      (map (row_of [] []) rows ++ draft.new_row name (plain_bounds kind (Some draft.zero)) ∷ []) (constant_by (goal_values free []))
+      (is_any (goal_values free [])))) (sym e)
 
   kind_more : (name : List ℕ) (o : Option RowKind) → more (kept_as name o) (free_as name o) ≡ with_row o name old
   kind_more name None = none_more
@@ -115,7 +117,8 @@ apart_free kept free name absent apart n here = list_any-append (bytes_eq n) fre
 
 -- a row of the model of another name
 apart_kept : (kept free : List (List ℕ)) (name : List ℕ) → list_any (bytes_eq name) free ≡ false → AreApart kept free → AreApart (kept ++ name ∷ []) free
-apart_kept kept free name absent apart n here = by (list_any (bytes_eq n) kept) refl (bytes_eq n name) refl (sym (list_any-append (bytes_eq n) kept (name ∷ [])) ∙ here)
+apart_kept kept free name absent apart n here =
+    by (list_any (bytes_eq n) kept) refl (bytes_eq n name) refl (sym (list_any-append (bytes_eq n) kept (name ∷ [])) ∙ here)
   where
     by : (a : Bool) → list_any (bytes_eq n) kept ≡ a → (b : Bool) → bytes_eq n name ≡ b → (a || (b || false)) ≡ true → list_any (bytes_eq n) free ≡ false
     by true e b f h = apart n e
@@ -146,16 +149,28 @@ module _ (section : Section) (g : Given) (are : AreNames (names_of g.rows) g.fre
       by : (b : Bool) → cond b (judge_free now name) (judge_kept now name) ≡ None
           → AreNames (names_of (rows ++ cond b [] (record { name = name; kind = kind } ∷ []))) (free ++ cond b (name ∷ []) [])
       by true j =
-          let parts = or_parts (list_any (bytes_eq name) free) _ (unset _ kinds.DuplicateRow (both_none (wrong_if (nat_lt name_limit (length name)) kinds.NameLong) _ j).1) in
+          let parts = or_parts (list_any (bytes_eq name) free) _ (unset _ kinds.DuplicateRow
+          (both_none (wrong_if (nat_lt name_limit (length name)) kinds.NameLong) _ j).1) in
           with_names _ _ _ _ (ap names_of (append-nil rows)) refl
-          (record { distinct = are.distinct; apart = apart_free (names_of rows) free name (ap (list_any (bytes_eq name)) (sym (rows_back g.values g.ranges g.rows)) ∙ parts.1) are.apart })
+          (record {
+            distinct = are.distinct;
+            apart = apart_free (names_of rows) free name
+                (ap (list_any (bytes_eq name)) (sym (rows_back g.values g.ranges g.rows)) ∙ parts.1) are.apart;
+          })
       by false j =
-          let rest = both_none (wrong_if (list_any (bytes_eq name) free) kinds.DuplicateRow) _ (both_none (wrong_if (nat_lt name_limit (length name)) kinds.NameLong) _ j).1 in
+          let rest = both_none (wrong_if (list_any (bytes_eq name) free) kinds.DuplicateRow) _
+          (both_none (wrong_if (nat_lt name_limit (length name)) kinds.NameLong) _ j).1 in
           let away : list_any (bytes_eq name) free ≡ false = unset _ kinds.DuplicateRow rest.0 in
-          let none : place_of name (names_of_rows (map (row_of g.values g.ranges) g.rows)) ≡ None = unplaced (nat_lt name_limit (length name)) (place_of name (names_of_rows (map (row_of g.values g.ranges) g.rows))) _ rest.1 in
-          let absent : list_any (bytes_eq name) (names_of rows) ≡ false = place_none name (names_of rows) (ap (place_of name) (sym (rows_back g.values g.ranges g.rows)) ∙ none) in
+          let none : place_of name (names_of_rows (map (row_of g.values g.ranges) g.rows)) ≡ None =
+          unplaced (nat_lt name_limit (length name)) (place_of name (names_of_rows (map (row_of g.values g.ranges) g.rows))) _ rest.1 in
+          let absent : list_any (bytes_eq name) (names_of rows) ≡ false =
+          place_none name (names_of rows) (ap (place_of name) (sym (rows_back g.values g.ranges g.rows)) ∙ none) in
           with_names _ _ _ _ (map-append (λ (r : Declared). r.name) rows (record { name = name; kind = kind } ∷ [])) (append-nil free)
-          (record { distinct = IsDistinct-push nat_list_eq_equiv (names_of rows) name are.distinct absent; apart = apart_kept (names_of rows) free name away are.apart })
+          (record {
+            distinct = IsDistinct-push nat_list_eq_equiv (names_of rows) name are.distinct absent;
+            apart =
+                apart_kept (names_of rows) free name away are.apart;
+          })
 
   pub names_line : (words : List (List ℕ)) → judge_row now words ≡ None → AreNames (names_of (rows ++ kept_in words)) (free ++ free_in words)
   names_line (kind ∷ name ∷ []) j = by_kind name (kind_of kind) j

@@ -25,8 +25,10 @@ use Rattle.pami_mps.proofs.Values.{valued, value_line, range_line}
 
 -- filters over one more line
 
-more : {P A : Type 0} (f : P → Bool) (g : P → List A) (ps : List P) (p : P) → flat_map g (filter f (ps ++ p ∷ [])) ≡ flat_map g (filter f ps) ++ cond (f p) (g p) []
-more f g ps p = ap (flat_map g) (filter-append f ps (p ∷ [])) ∙ flat_map-append g (filter f ps) (filter f (p ∷ [])) ∙ ap (λ zs. flat_map g (filter f ps) ++ zs) (by (f p))
+more : {P A : Type 0} (f : P → Bool) (g : P → List A) (ps : List P) (p : P)
+    → flat_map g (filter f (ps ++ p ∷ [])) ≡ flat_map g (filter f ps) ++ cond (f p) (g p) []
+more f g ps p = ap (flat_map g) (filter-append f ps (p ∷ [])) ∙ flat_map-append g (filter f ps) (filter f (p ∷ []))
+    ∙ ap (λ zs. flat_map g (filter f ps) ++ zs) (by (f p))
   where
     by : (b : Bool) → flat_map g (cond b (p ∷ []) []) ≡ cond b (g p) []
     by true = append-nil (g p)
@@ -36,8 +38,10 @@ placed_more : (s : Section) (ls : List Line) (l : Line) → placed s (ls ++ l �
 placed_more s [] l = refl
 placed_more s (x ∷ ls) l = ap (λ (ps : List (Section × Line)). (s, x) ∷ ps) (placed_more (next s x) ls l)
 
-line_more : {A : Type 0} (ls : List Line) (l : Line) (f : Section × Line → Bool) (g : Line → List A) → given_by f g (ls ++ l ∷ []) ≡ given_by f g ls ++ cond (f (section_at ls, l)) (g l) []
-line_more ls l f g = ap (λ (ps : List (Section × Line)). flat_map (λ p. g p.1) (filter f ps)) (placed_more Start ls l) ∙ more f (λ p. g p.1) (placed Start ls) (section_at ls, l)
+line_more : {A : Type 0} (ls : List Line) (l : Line) (f : Section × Line → Bool) (g : Line → List A)
+    → given_by f g (ls ++ l ∷ []) ≡ given_by f g ls ++ cond (f (section_at ls, l)) (g l) []
+line_more ls l f g = ap (λ (ps : List (Section × Line)). flat_map (λ p. g p.1) (filter f ps)) (placed_more Start ls l)
+    ∙ more f (λ p. g p.1) (placed Start ls) (section_at ls, l)
 
 pub section_more : (ls : List Line) (l : Line) → section_at (ls ++ l ∷ []) ≡ next (section_at ls) l
 section_more ls l = fold-append next Start ls (l ∷ [])
@@ -83,7 +87,16 @@ nothing = record { senses = []; rows = []; free = []; pairs = []; values = []; r
 -- each list of what is given, as it is with nothing more, or with what a line of its section gives
 module _ (g : Given) where
   senses_more : (xs : List Sense) → joined g (record nothing { senses = xs }) ≡ record g { senses = g.senses ++ xs }
-  senses_more xs = (λ i. record { senses = g.senses ++ xs; rows = append-nil g.rows i; free = append-nil g.free i; pairs = append-nil g.pairs i; values = append-nil g.values i; ranges = append-nil g.ranges i; limits = append-nil g.limits i })
+  senses_more xs = (λ i. record {
+    senses = g.senses ++ xs;
+    rows = append-nil g.rows i;
+    free = append-nil g.free i;
+    pairs = append-nil g.pairs i;
+    values =
+        append-nil g.values i;
+    ranges = append-nil g.ranges i;
+    limits = append-nil g.limits i;
+  })
 
   pub nothing_more : joined g nothing ≡ g
   nothing_more = senses_more [] ∙ (λ i. record g { senses = append-nil g.senses i })
@@ -153,7 +166,16 @@ begins s (w ∷ ws) h = by (section_of w) refl h
     by (Some t) e h = go (follows s t) refl h
       where
         go : (b : Bool) → follows s t ≡ b → cond b (judge_others t ws) (Some kinds.Order) ≡ None → Begins s (w ∷ ws)
-        go true f g = record { word = w; others = ws; to = t; split = refl; known = e; later = ltb-true (rank s) (rank t) (first_true (nat_lt (rank s) (rank t)) _ f); good = g }
+        go true f g = record {
+          word = w;
+          others = ws;
+          to = t;
+          split = refl;
+          known = e;
+          later =
+              ltb-true (rank s) (rank t) (first_true (nat_lt (rank s) (rank t)) _ f);
+          good = g;
+        }
         go false f g = absurd (some≢none g)
 
 pub not_back : (s : Section) (words : List (List ℕ)) → judge_head s words ≡ None → rank s ≤ rank (named s words)
@@ -203,13 +225,16 @@ module _ (g : Given) where
       → seen_by (named s words) (joined g (record nothing { senses = sense_in (behind_word words) })) ≡ after_head (seen_by s g) words
   head_line s words early j =
       let b = begins s words j in
-      subst (λ (ws : List (List ℕ)). seen_by (named s ws) (joined g (record nothing { senses = sense_in (behind_word ws) })) ≡ after_head (seen_by s g) ws) (sym b.split)
-      (subst (λ (o : Option Section). seen_by (begun s o b.others) (joined g (record nothing { senses = sense_in (goal_words o b.others) })) ≡ after_section (seen_by s g) o b.others) (sym b.known)
+      subst (λ (ws : List (List ℕ)). seen_by (named s ws) (joined g (record nothing { senses = sense_in (behind_word ws) })) ≡ after_head (seen_by s g) ws)
+      (sym b.split)
+      (subst (λ (o : Option Section). seen_by (begun s o b.others) (joined g (record nothing { senses = sense_in (goal_words o b.others) })) ≡ after_section
+      (seen_by s g) o b.others) (sym b.known)
       (begins_section s b.to b.others b.later b.good early))
 
   -- data lines
 
-  in_rows : (words : List (List ℕ)) → Orderly Rows g → seen_by Rows (joined g (record nothing { rows = kept_in words; free = free_in words })) ≡ after_row (seen_by Rows g) words
+  in_rows : (words : List (List ℕ)) → Orderly Rows g
+      → seen_by Rows (joined g (record nothing { rows = kept_in words; free = free_in words })) ≡ after_row (seen_by Rows g) words
   in_rows words so =
       let pairs = so.early_pairs (omega arith) in
       let values = so.early_values (omega arith) in
@@ -226,7 +251,16 @@ module _ (g : Given) where
         limits = (append-nil g.limits ∙ limits) i;
       }) in
       let bare : rowed g g.rows g.free ≡ g =
-      (λ i. record { senses = g.senses; rows = g.rows; free = g.free; pairs = sym pairs i; values = sym values i; ranges = sym ranges i; limits = sym limits i }) in
+      (λ i. record {
+        senses = g.senses;
+        rows = g.rows;
+        free = g.free;
+        pairs = sym pairs i;
+        values = sym values i;
+        ranges = sym ranges i;
+        limits =
+            sym limits i;
+      }) in
       ap (seen_by Rows) grown ∙ row_line Rows g g.rows g.free words ∙ ap (λ (x : Given). after_row (seen_by Rows x) words) bare
 
   in_columns : (words : List (List ℕ)) → Orderly Columns g → judge_data (seen_by Columns g) words ≡ None
@@ -266,7 +300,8 @@ module _ (g : Given) where
       }) in
       let bare : valued g g.values [] ≡ g =
       (λ i. record { senses = g.senses; rows = g.rows; free = g.free; pairs = g.pairs; values = g.values; ranges = sym none i; limits = g.limits }) in
-      ap (seen_by Rhs) grown ∙ value_line Rhs g so.names.distinct so.names.apart g.values (without_set (w ∷ ws)) (subst (λ (x : Given). judge_data (seen_by Rhs x) (w ∷ ws) ≡ None) (sym bare) j)
+      ap (seen_by Rhs) grown ∙ value_line Rhs g so.names.distinct so.names.apart g.values (without_set (w ∷ ws))
+      (subst (λ (x : Given). judge_data (seen_by Rhs x) (w ∷ ws) ≡ None) (sym bare) j)
       ∙ ap (λ (x : Given). after_words Rhs (seen_by Rhs x) (w ∷ ws)) bare
 
   in_ranges : (words : List (List ℕ)) → Orderly Ranges g → judge_data (seen_by Ranges g) words ≡ None
@@ -310,7 +345,8 @@ module _ (g : Given) where
   pub one_line : (s : Section) (l : Line) → Orderly s g → judge (seen_by s g) l ≡ None → behind s l ≡ after (seen_by s g) l
   one_line s l so j = by s l.head so j
     where
-      headed : (t : Section) → Orderly t g → judge_read (seen_by t g) (as_head true l) ≡ None → seen_by (named t l.words) (joined g (record nothing { senses = sense_in (behind_word l.words) })) ≡ after_head (seen_by t g) l.words
+      headed : (t : Section) → Orderly t g → judge_read (seen_by t g) (as_head true l) ≡ None
+          → seen_by (named t l.words) (joined g (record nothing { senses = sense_in (behind_word l.words) })) ≡ after_head (seen_by t g) l.words
       headed t so j = head_line t l.words so.early_senses (read_good (seen_by t g) (as_head true l) j)
 
       by : (t : Section) (b : Bool) → Orderly t g → judge (seen_by t g) (as_head b l) ≡ None → behind t (as_head b l) ≡ after (seen_by t g) (as_head b l)
@@ -341,7 +377,8 @@ module _ (g : Given) where
   Behind s l = Orderly (next s l) (joined g (gives s l))
 
   same_names : AreNames (names_of g.rows) g.free → AreNames (names_of (g.rows ++ [])) (g.free ++ [])
-  same_names h = subst (λ (x : List Declared). AreNames (names_of x) (g.free ++ [])) (sym (append-nil g.rows)) (subst (AreNames (names_of g.rows)) (sym (append-nil g.free)) h)
+  same_names h = subst (λ (x : List Declared). AreNames (names_of x) (g.free ++ [])) (sym (append-nil g.rows))
+      (subst (AreNames (names_of g.rows)) (sym (append-nil g.free)) h)
 
   -- nothing but a sense is given
   onward : (s t : Section) (xs : List Sense) → rank s ≤ rank t → (rank t < 3 → xs ≡ []) → Orderly s g → Orderly t (joined g (record nothing { senses = xs }))
@@ -354,7 +391,8 @@ module _ (g : Given) where
     names = same_names so.names;
   }
 
-  row_names : (words : List (List ℕ)) → AreNames (names_of g.rows) g.free → judge_data (seen_by Rows g) words ≡ None → AreNames (names_of (g.rows ++ kept_in words)) (g.free ++ free_in words)
+  row_names : (words : List (List ℕ)) → AreNames (names_of g.rows) g.free → judge_data (seen_by Rows g) words ≡ None
+      → AreNames (names_of (g.rows ++ kept_in words)) (g.free ++ free_in words)
   row_names [] are j = same_names are
   row_names (w ∷ ws) are j = names_line Rows g are (w ∷ ws) j
 
@@ -387,8 +425,10 @@ module _ (g : Given) where
   pub kept_orderly : (s : Section) (l : Line) → Orderly s g → judge (seen_by s g) l ≡ None → Behind s l
   kept_orderly s l so j = by s l.head so j
     where
-      headed : (t : Section) → Orderly t g → judge_read (seen_by t g) (as_head true l) ≡ None → Orderly (named t l.words) (joined g (record nothing { senses = sense_in (behind_word l.words) }))
-      headed t so j = onward t (named t l.words) (sense_in (behind_word l.words)) (not_back t l.words (read_good (seen_by t g) (as_head true l) j)) (head_senses t l.words) so
+      headed : (t : Section) → Orderly t g → judge_read (seen_by t g) (as_head true l) ≡ None
+          → Orderly (named t l.words) (joined g (record nothing { senses = sense_in (behind_word l.words) }))
+      headed t so j = onward t (named t l.words) (sense_in (behind_word l.words)) (not_back t l.words (read_good (seen_by t g) (as_head true l) j))
+          (head_senses t l.words) so
 
       by : (t : Section) (b : Bool) → Orderly t g → judge (seen_by t g) (as_head b l) ≡ None → Behind t (as_head b l)
       by Start true so j = headed Start so j

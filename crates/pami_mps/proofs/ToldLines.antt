@@ -24,15 +24,18 @@ use Rattle.pami_mps.proofs.Places.{changed_set, at_any}
 module _ (s : Seen) where
   -- the row's bounds, and what is told of it
   told_set : (row : ℕ) (t : Told) (bounds : Bounds) (draft : Draft) (told : List Told) → row < length s.told → told ≡ set s.told row t
-      → draft ≡ record s.draft { rows = changed row (row_with_bounds bounds) s.draft.rows } → ◌≡◌ {A = Seen} (record s { draft = draft; told = told }) (with_told row t bounds s)
-  told_set row t bounds draft told lt e f = let both = e ∙ sym (changed_set row (λ (u : Told). t) s.told untold lt) in (λ i. record s { draft = f i; told = both i })
+      → draft ≡ record s.draft { rows = changed row (row_with_bounds bounds) s.draft.rows }
+      → ◌≡◌ {A = Seen} (record s { draft = draft; told = told }) (with_told row t bounds s)
+  told_set row t bounds draft told lt e f = let both = e
+      ∙ sym (changed_set row (λ (u : Told). t) s.told untold lt) in (λ i. record s { draft = f i; told = both i })
 
   told_here : (row : ℕ) (u : Told) → row < length s.told → u ≡ get_or s.told row u → u ≡ told_at s.told row
   told_here row u lt e = e ∙ at_any s.told row u untold lt
 
   pub right_set : (row : ℕ) (value : BoundValue) (u : Told) (bounds : Bounds) (draft : Draft) (told : List Told) → row < length s.told → u ≡ get_or s.told row u
       → bounds ≡ plain_bounds u.kind (bound_by value) → told ≡ set s.told row (record u { right = value; has_right = true })
-      → draft ≡ record s.draft { rows = changed row (row_with_bounds bounds) s.draft.rows } → ◌≡◌ {A = Seen} (record s { draft = draft; told = told }) (with_right row value s)
+      → draft ≡ record s.draft { rows = changed row (row_with_bounds bounds) s.draft.rows }
+      → ◌≡◌ {A = Seen} (record s { draft = draft; told = told }) (with_right row value s)
   right_set row value u bounds draft told lt is b e f =
       told_set row (record u { right = value; has_right = true }) bounds draft told lt e f
       ∙ ap (λ (x : Bounds). with_told row (record u { right = value; has_right = true }) x s) b
@@ -40,15 +43,18 @@ module _ (s : Seen) where
 
   pub range_set : (row : ℕ) (value : BoundValue) (u : Told) (bounds : Bounds) (draft : Draft) (told : List Told) → row < length s.told → u ≡ get_or s.told row u
       → bounds ≡ bounds_with u.kind u.right (Some value) → told ≡ set s.told row (record u { has_range = true })
-      → draft ≡ record s.draft { rows = changed row (row_with_bounds bounds) s.draft.rows } → ◌≡◌ {A = Seen} (record s { draft = draft; told = told }) (with_range row value s)
+      → draft ≡ record s.draft { rows = changed row (row_with_bounds bounds) s.draft.rows }
+      → ◌≡◌ {A = Seen} (record s { draft = draft; told = told }) (with_range row value s)
   range_set row value u bounds draft told lt is b e f =
       told_set row (record u { has_range = true }) bounds draft told lt e f
       ∙ ap (λ (x : Bounds). with_told row (record u { has_range = true }) x s) b
       ∙ ap (λ (t : Told). with_told row (record t { has_range = true }) (bounds_with t.kind t.right (Some value)) s) (told_here row u lt is)
 
   -- the column's bounds
-  pub limit_set : (column : ℕ) (kind : LimitKind) (value : BoundValue) (u t : Sides) (draft : Draft) (sides : List Sides) → column < length s.sides → u ≡ get_or s.sides column u
-      → t ≡ effect kind value u → sides ≡ set s.sides column t → draft ≡ record s.draft { columns = changed column (column_with_bounds t.bounds) s.draft.columns }
+  pub limit_set : (column : ℕ) (kind : LimitKind) (value : BoundValue) (u t : Sides) (draft : Draft) (sides : List Sides) → column < length s.sides
+      → u ≡ get_or s.sides column u
+      → t ≡ effect kind value u → sides ≡ set s.sides column t
+      → draft ≡ record s.draft { columns = changed column (column_with_bounds t.bounds) s.draft.columns }
       → ◌≡◌ {A = Seen} (record s { draft = draft; sides = sides }) (with_sides column (effect kind value (sides_at s.sides column)) s)
   limit_set column kind value u t draft sides lt is b e f =
       let both = e ∙ sym (changed_set column (λ (v : Sides). t) s.sides unstated lt) in

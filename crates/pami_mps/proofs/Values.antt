@@ -31,7 +31,14 @@ with_rows section g told out constant has = record {
   free = g.free;
   told = told;
   sides = map (sides_of g.limits) (column_names g.pairs);
-  draft = record { sense = sense_by g.senses; constant = constant; rows = out; columns = columns_of (names_by g.rows g.free) g.pairs g.limits; pairs = places_of (names_by g.rows g.free) g.pairs };
+  draft = record {
+    sense = sense_by g.senses;
+    constant = constant;
+    rows = out;
+    columns = columns_of (names_by g.rows g.free) g.pairs g.limits;
+    pairs =
+        places_of (names_by g.rows g.free) g.pairs;
+  };
   has_cost = has_cost (names_by g.rows g.free) g.pairs;
   has_constant = has;
 }
@@ -59,7 +66,8 @@ none_given (x ∷ xs) h = absurd (true≢false h)
 
 -- the one value of a name that had none
 first_given : (values : List Value) (r v n : List ℕ) → given_for values r ≡ [] → bytes_eq r n ≡ true → given_for (values ++ value_words r v ∷ []) n ≡ v ∷ []
-first_given values r v n none e = given_hit values r v n e ∙ ap (λ (m : List ℕ). given_for values m ++ v ∷ []) (sym (same r n e)) ∙ ap (λ (ws : List (List ℕ)). ws ++ v ∷ []) none
+first_given values r v n none e = given_hit values r v n e ∙ ap (λ (m : List ℕ). given_for values m ++ v ∷ []) (sym (same r n e))
+    ∙ ap (λ (ws : List (List ℕ)). ws ++ v ∷ []) none
 
 -- the row of a name: what is told at its place is told of it
 pub record IsRowOf (values ranges : List Value) (rows : List Declared) (n : List ℕ) (i : ℕ) : Type 0 where
@@ -75,7 +83,12 @@ row_at values ranges (r ∷ rows) n i e = by (row_at values ranges rows n) (plac
         → ((bytes_eq n r.name ≡ true) × (i ≡ 0)) ⊎ ((bytes_eq n r.name ≡ false) × ((j : ℕ) × (i ≡ suc j) × (place_of n (names_of rows) ≡ Some j)))
         → IsRowOf values ranges (r ∷ rows) n i
     by rest (inl p) = record { row = r; name = sym (same n r.name p.0); told = ap (told_at (told_of values ranges r ∷ map (told_of values ranges) rows)) p.1 }
-    by rest (inr p) = let found = rest p.1.0 p.1.2 in record { row = found.row; name = found.name; told = ap (told_at (told_of values ranges r ∷ map (told_of values ranges) rows)) p.1.1 ∙ found.told }
+    by rest (inr p) = let found = rest p.1.0 p.1.2 in record {
+      row = found.row;
+      name = found.name;
+      told =
+          ap (told_at (told_of values ranges r ∷ map (told_of values ranges) rows)) p.1.1 ∙ found.told;
+    }
 
 -- no name is that of a row of the model and of an N row
 abbrev pub AreApart : List (List ℕ) → List (List ℕ) → Type 0
@@ -101,7 +114,8 @@ module _ (section : Section) (g : Given) (distinct : IsDistinct bytes_eq (names_
     row_missed x e = ap (λ (ws : List (List ℕ)). new_row x.name (bounds_with x.kind (right_by ws) None)) (given_missed values r v x.name e)
 
     told_missed : (x : Declared) → bytes_eq r x.name ≡ false → told_of more [] x ≡ told_of values [] x
-    told_missed x e = ap (λ (ws : List (List ℕ)). let t : Told = record { kind = x.kind; right = right_by ws; has_right = is_any ws; has_range = false } in t) (given_missed values r v x.name e)
+    told_missed x e = ap (λ (ws : List (List ℕ)). let t : Told =
+        record { kind = x.kind; right = right_by ws; has_right = is_any ws; has_range = false } in t) (given_missed values r v x.name e)
 
     goals_kept : (ns : List (List ℕ)) → list_any (bytes_eq r) ns ≡ false → goal_values ns more ≡ goal_values ns values
     goals_kept [] e = refl
@@ -113,15 +127,19 @@ module _ (section : Section) (g : Given) (distinct : IsDistinct bytes_eq (names_
     to_row : (i : ℕ) → place_of r (names_of g.rows) ≡ Some i → (told_at now.told i).has_right ≡ false → with_right i value now ≡ behind
     to_row i e free_still =
         let at : IsRowOf values [] g.rows r i = row_at values [] g.rows r i e in
-        let none : given_for values r ≡ [] = none_given (given_for values r) (ap (λ (n : List ℕ). is_any (given_for values n)) (sym at.name) ∙ ap (λ (t : Told). t.has_right) (sym at.told) ∙ free_still) in
+        let none : given_for values r ≡ [] = none_given (given_for values r)
+        (ap (λ (n : List ℕ). is_any (given_for values n)) (sym at.name) ∙ ap (λ (t : Told). t.has_right) (sym at.told) ∙ free_still) in
         let row_hit : (x : Declared) (xs : List Declared) → bytes_eq r x.name ≡ true
         → row_of more [] x ≡ row_with_bounds (plain_bounds (told_by (x ∷ xs) 0).kind (bound_by value)) (row_of values [] x) =
         (λ x xs h. ap (λ (ws : List (List ℕ)). new_row x.name (bounds_with x.kind (right_by ws) None)) (first_given values r v x.name none h)) in
         let told_hit : (x : Declared) (xs : List Declared) → bytes_eq r x.name ≡ true
         → ◌≡◌ {A = Told} (told_of more [] x) (record (told_by (x ∷ xs) 0) { right = value; has_right = true }) =
-        (λ x xs h. ap (λ (ws : List (List ℕ)). let t : Told = record { kind = x.kind; right = right_by ws; has_right = is_any ws; has_range = false } in t) (first_given values r v x.name none h)) in
-        let out = sym (map_changed (λ (x : Declared). x.name) (row_of values []) (row_of more []) r (λ xs k. row_with_bounds (plain_bounds (told_by xs k).kind (bound_by value))) (λ x xs k. refl) row_hit row_missed g.rows i e distinct) in
-        let told = sym (map_changed (λ (x : Declared). x.name) (told_of values []) (told_of more []) r (λ xs k. (λ (u : Told). record (told_by xs k) { right = value; has_right = true })) (λ x xs k. refl) told_hit told_missed g.rows i e distinct) in
+        (λ x xs h. ap (λ (ws : List (List ℕ)). let t : Told = record { kind = x.kind; right = right_by ws; has_right = is_any ws; has_range = false } in t)
+        (first_given values r v x.name none h)) in
+        let out = sym (map_changed (λ (x : Declared). x.name) (row_of values []) (row_of more []) r
+        (λ xs k. row_with_bounds (plain_bounds (told_by xs k).kind (bound_by value))) (λ x xs k. refl) row_hit row_missed g.rows i e distinct) in
+        let told = sym (map_changed (λ (x : Declared). x.name) (told_of values []) (told_of more []) r
+        (λ xs k. (λ (u : Told). record (told_by xs k) { right = value; has_right = true })) (λ x xs k. refl) told_hit told_missed g.rows i e distinct) in
         let goals : goal_values g.free values ≡ goal_values g.free more = sym (goals_kept g.free (apart r (place_some r (names_of g.rows) i e))) in
         (λ k. with_rows section g (told k) (out k) (constant_by (goals k)) (is_any (goals k)))
 
@@ -138,7 +156,8 @@ module _ (section : Section) (g : Given) (distinct : IsDistinct bytes_eq (names_
     goal_first [] e h = absurd (some≢none (sym e))
     goal_first (n ∷ ns) e h = by (place_cons r n ns 0 e)
       where
-        by : ((bytes_eq r n ≡ true) × (◌≡◌ {A = ℕ} 0 0)) ⊎ ((bytes_eq r n ≡ false) × ((j : ℕ) × (◌≡◌ {A = ℕ} 0 (suc j)) × (place_of r ns ≡ Some j))) → given_for more n ≡ v ∷ []
+        by : ((bytes_eq r n ≡ true) × (◌≡◌ {A = ℕ} 0 0)) ⊎ ((bytes_eq r n ≡ false) × ((j : ℕ) × (◌≡◌ {A = ℕ} 0 (suc j)) × (place_of r ns ≡ Some j)))
+            → given_for more n ≡ v ∷ []
         by (inl p) = given_hit values r v n p.0 ∙ ap (λ (ws : List (List ℕ)). ws ++ v ∷ []) (none_given (given_for values n) h)
         by (inr p) = absurd cc
 
@@ -146,7 +165,8 @@ module _ (section : Section) (g : Given) (distinct : IsDistinct bytes_eq (names_
     goal_later [] i e h = refl
     goal_later (n ∷ ns) i e h = by (place_cons r n ns i e)
       where
-        by : ((bytes_eq r n ≡ true) × (i ≡ 0)) ⊎ ((bytes_eq r n ≡ false) × ((j : ℕ) × (i ≡ suc j) × (place_of r ns ≡ Some j))) → given_for more n ≡ given_for values n
+        by : ((bytes_eq r n ≡ true) × (i ≡ 0)) ⊎ ((bytes_eq r n ≡ false) × ((j : ℕ) × (i ≡ suc j) × (place_of r ns ≡ Some j)))
+            → given_for more n ≡ given_for values n
         by (inl p) = absurd (true≢false (sym (ap (λ (k : ℕ). nat_eq k 0) p.1) ∙ h))
         by (inr p) = given_missed values r v n p.0
 
@@ -166,12 +186,15 @@ module _ (section : Section) (g : Given) (distinct : IsDistinct bytes_eq (names_
         let goals : goal_values g.free values ≡ goal_values g.free more = sym (goal_later g.free i e later) in
         (λ k. with_rows section g (told k) (out k) (constant_by (goals k)) (is_any (goals k)))
 
-    by_role : (a b : Option ℕ) → place_of r (names_of g.rows) ≡ a → place_of r g.free ≡ b → judge_right_role now (role_by a b) v ≡ None → right_as (role_by a b) v now ≡ behind
-    by_role (Some i) b e f j = to_row i e (unset (told_at now.told i).has_right _ (both_none (wrong_if (told_at now.told i).has_right _) _ (both_none (judge_limit v) _ j).1).0)
+    by_role : (a b : Option ℕ) → place_of r (names_of g.rows) ≡ a → place_of r g.free ≡ b → judge_right_role now (role_by a b) v ≡ None
+        → right_as (role_by a b) v now ≡ behind
+    by_role (Some i) b e f j = to_row i e (unset (told_at now.told i).has_right _
+        (both_none (wrong_if (told_at now.told i).has_right _) _ (both_none (judge_limit v) _ j).1).0)
     by_role None None e f j = absurd (some≢none j)
     by_role None (Some i) e f j = by (nat_eq i 0) refl j
       where
-        by : (b : Bool) → nat_eq i 0 ≡ b → judge_right_role now (Some (cond b Objective Dropped)) v ≡ None → right_as (Some (cond b Objective Dropped)) v now ≡ behind
+        by : (b : Bool) → nat_eq i 0 ≡ b → judge_right_role now (Some (cond b Objective Dropped)) v ≡ None
+            → right_as (Some (cond b Objective Dropped)) v now ≡ behind
         by true h j = to_objective e (f ∙ ap Some (eqb-true i 0 h)) (unset now.has_constant _ (both_none (judge_number v) _ j).1)
         by false h j = to_dropped i e f h
 
@@ -194,11 +217,18 @@ module _ (section : Section) (g : Given) (distinct : IsDistinct bytes_eq (names_
     after_range = seen_by section (valued g g.values wider)
 
     bounds_missed : (x : Declared) → bytes_eq r x.name ≡ false → row_of g.values wider x ≡ row_of g.values ranges x
-    bounds_missed x e = ap (λ (ws : List (List ℕ)). new_row x.name (bounds_with x.kind (right_by (given_for g.values x.name)) (range_by ws))) (given_missed ranges r v x.name e)
+    bounds_missed x e = ap (λ (ws : List (List ℕ)). new_row x.name (bounds_with x.kind (right_by (given_for g.values x.name)) (range_by ws)))
+        (given_missed ranges r v x.name e)
 
     marks_missed : (x : Declared) → bytes_eq r x.name ≡ false → told_of g.values wider x ≡ told_of g.values ranges x
     marks_missed x e =
-        ap (λ (ws : List (List ℕ)). let t : Told = record { kind = x.kind; right = right_by (given_for g.values x.name); has_right = is_any (given_for g.values x.name); has_range = is_any ws } in t) (given_missed ranges r v x.name e)
+        ap (λ (ws : List (List ℕ)). let t : Told = record {
+          kind = x.kind;
+          right = right_by (given_for g.values x.name);
+          has_right =
+              is_any (given_for g.values x.name);
+          has_range = is_any ws;
+        } in t) (given_missed ranges r v x.name e)
 
     abbrev marked : List Declared → ℕ → Told
     marked xs i = told_at (map (told_of g.values ranges) xs) i
@@ -206,19 +236,28 @@ module _ (section : Section) (g : Given) (distinct : IsDistinct bytes_eq (names_
     ranged_row : (i : ℕ) → place_of r (names_of g.rows) ≡ Some i → (told_at before.told i).has_range ≡ false → with_range i value before ≡ after_range
     ranged_row i e free_still =
         let at : IsRowOf g.values ranges g.rows r i = row_at g.values ranges g.rows r i e in
-        let none : given_for ranges r ≡ [] = none_given (given_for ranges r) (ap (λ (n : List ℕ). is_any (given_for ranges n)) (sym at.name) ∙ ap (λ (t : Told). t.has_range) (sym at.told) ∙ free_still) in
+        let none : given_for ranges r ≡ [] = none_given (given_for ranges r)
+        (ap (λ (n : List ℕ). is_any (given_for ranges n)) (sym at.name) ∙ ap (λ (t : Told). t.has_range) (sym at.told) ∙ free_still) in
         let row_hit : (x : Declared) (xs : List Declared) → bytes_eq r x.name ≡ true
         → row_of g.values wider x ≡ row_with_bounds (bounds_with (marked (x ∷ xs) 0).kind (marked (x ∷ xs) 0).right (Some value)) (row_of g.values ranges x) =
-        (λ x xs h. ap (λ (ws : List (List ℕ)). new_row x.name (bounds_with x.kind (right_by (given_for g.values x.name)) (range_by ws))) (first_given ranges r v x.name none h)) in
-        let told_hit : (x : Declared) (xs : List Declared) → bytes_eq r x.name ≡ true → ◌≡◌ {A = Told} (told_of g.values wider x) (record (marked (x ∷ xs) 0) { has_range = true }) =
-        (λ x xs h. ap (λ (ws : List (List ℕ)). let t : Told = record { kind = x.kind; right = right_by (given_for g.values x.name); has_right = is_any (given_for g.values x.name); has_range = is_any ws } in t)
+        (λ x xs h. ap (λ (ws : List (List ℕ)). new_row x.name (bounds_with x.kind (right_by (given_for g.values x.name)) (range_by ws)))
         (first_given ranges r v x.name none h)) in
-        let out = sym (map_changed (λ (x : Declared). x.name) (row_of g.values ranges) (row_of g.values wider) r (λ xs k. row_with_bounds (bounds_with (marked xs k).kind (marked xs k).right (Some value))) (λ x xs k. refl) row_hit bounds_missed g.rows i e distinct) in
-        let told = sym (map_changed (λ (x : Declared). x.name) (told_of g.values ranges) (told_of g.values wider) r (λ xs k. (λ (u : Told). record (marked xs k) { has_range = true })) (λ x xs k. refl) told_hit marks_missed g.rows i e distinct) in
+        let told_hit : (x : Declared) (xs : List Declared) → bytes_eq r x.name ≡ true
+        → ◌≡◌ {A = Told} (told_of g.values wider x) (record (marked (x ∷ xs) 0) { has_range = true }) =
+        (λ x xs h. ap (λ (ws : List (List ℕ)). let t : Told =
+        record { kind = x.kind; right = right_by (given_for g.values x.name); has_right = is_any (given_for g.values x.name); has_range = is_any ws } in t)
+        (first_given ranges r v x.name none h)) in
+        let out = sym (map_changed (λ (x : Declared). x.name) (row_of g.values ranges) (row_of g.values wider) r
+        (λ xs k. row_with_bounds (bounds_with (marked xs k).kind (marked xs k).right (Some value)))
+        (λ x xs k. refl) row_hit bounds_missed g.rows i e distinct) in
+        let told = sym (map_changed (λ (x : Declared). x.name) (told_of g.values ranges) (told_of g.values wider) r
+        (λ xs k. (λ (u : Told). record (marked xs k) { has_range = true })) (λ x xs k. refl) told_hit marks_missed g.rows i e distinct) in
         (λ k. with_rows section g (told k) (out k) (constant_by (goal_values g.free g.values)) (is_any (goal_values g.free g.values)))
 
-    ranged_by : (a b : Option ℕ) → place_of r (names_of g.rows) ≡ a → judge_range_role before (role_by a b) v ≡ None → range_as (role_by a b) v before ≡ after_range
-    ranged_by (Some i) b e j = ranged_row i e (unset (told_at before.told i).has_range _ (both_none (wrong_if (told_at before.told i).has_range _) _ (both_none (judge_limit v) _ j).1).0)
+    ranged_by : (a b : Option ℕ) → place_of r (names_of g.rows) ≡ a → judge_range_role before (role_by a b) v ≡ None
+        → range_as (role_by a b) v before ≡ after_range
+    ranged_by (Some i) b e j = ranged_row i e (unset (told_at before.told i).has_range _
+        (both_none (wrong_if (told_at before.told i).has_range _) _ (both_none (judge_limit v) _ j).1).0)
     ranged_by None None e j = absurd (some≢none j)
     ranged_by None (Some i) e j = by (nat_eq i 0) j
       where
@@ -254,7 +293,8 @@ module _ (section : Section) (g : Given) (distinct : IsDistinct bytes_eq (names_
   range_line ranges (r ∷ v ∷ q ∷ w ∷ []) j =
       let now : Seen = seen_by section (valued g g.values ranges) in
       let both = both_none (judge_ranged now r v) _ j in
-      let one : with_ranged r v now ≡ seen_by section (valued g g.values (ranges ++ value_words r v ∷ [])) = range_more section g distinct apart r v ranges both.0 in
+      let one : with_ranged r v now ≡ seen_by section (valued g g.values (ranges ++ value_words r v ∷ [])) =
+      range_more section g distinct apart r v ranges both.0 in
       ap (λ (xs : List Value). seen_by section (valued g g.values xs)) (sym (append_assoc ranges (value_words r v ∷ []) (value_words q w ∷ [])))
       ∙ sym (range_more section g distinct apart q w (ranges ++ value_words r v ∷ []) (subst (λ (x : Seen). judge_ranged x q w ≡ None) one both.1))
       ∙ ap (with_ranged q w) (sym one)

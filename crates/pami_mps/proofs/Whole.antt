@@ -49,7 +49,8 @@ module _ (ls : List Line) (i : ℕ) (s : Seen) (l : Line) (so : So ls i s) (e : 
     state_is = a ∙ ap (λ (x : Seen). after x l) so.state ∙ sym (seen_more (take i ls) l so.ready (good_there h)) ∙ ap seen grown
 
     pub section_is : t.section ≡ next s.section l
-    section_is = ap (λ (x : Seen). x.section) state_is ∙ ap section_at (sym grown) ∙ section_more (take i ls) l ∙ ap (λ (x : Seen). next x.section l) (sym so.state)
+    section_is = ap (λ (x : Seen). x.section) state_is ∙ ap section_at (sym grown) ∙ section_more (take i ls) l
+        ∙ ap (λ (x : Seen). next x.section l) (sym so.state)
 
     pub goes : judge_line s l ≡ None → So ls (i + 1) t
     goes k = record {
@@ -71,7 +72,8 @@ uncrossed : (s : Seen) (l : Line) → judge s l ≡ None → judge_crossed (ends
 uncrossed s l h k = ap (λ (j : Option FileKind). first_of j (judge_crossed (ends s l) s)) h ∙ k
 
 -- a good line that isn't ENDATA
-pub goes_on : (ls : List Line) (i : ℕ) (s t : Seen) (l : Line) → So ls i s → i < length ls → l ≡ get_or ls i blank → judge s l ≡ None → t ≡ after s l → is_end t.section ≡ false → So ls (i + 1) t
+pub goes_on : (ls : List Line) (i : ℕ) (s t : Seen) (l : Line) → So ls i s → i < length ls → l ≡ get_or ls i blank → judge s l ≡ None → t ≡ after s l
+    → is_end t.section ≡ false → So ls (i + 1) t
 goes_on ls i s t l so lt e h a open_still =
     goes ls i s l so e lt h t a (uncrossed s l h (no_end s l (ap is_end (sym (section_is ls i s l so e lt h t a)) ∙ open_still)))
 
@@ -117,7 +119,8 @@ end_gives s l open_still ended = by s.section l.head open_still ended
     same Limits u others o h = refl
     same End u others o h = refl
 
-    begun_end : (u : Section) (o : Option Section) (others : List (List ℕ)) → is_end u ≡ false → is_end (begun u o others) ≡ true → (after_section s o others).draft ≡ s.draft
+    begun_end : (u : Section) (o : Option Section) (others : List (List ℕ)) → is_end u ≡ false → is_end (begun u o others) ≡ true
+        → (after_section s o others).draft ≡ s.draft
     begun_end u None others o h = refl
     begun_end u (Some t) others o h = same t u others o h
 
@@ -160,7 +163,8 @@ module _ (bytes : List ℕ) (fits : length bytes ≤ byte_limit) where
 
   judged_end : judged bytes (length ls) ≡ wrong_if (not (is_end (section_at ls))) kinds.EndMissing
   judged_end = ap (λ (b : Bool). cond b (Some kinds.TooLong) (wrong_at ls (length ls))) (le-ltb byte_limit (length bytes) fits)
-      ∙ ap (λ (b : Bool). cond b (fault_at ls (length ls)) (wrong_if (not (is_end (section_at ls))) kinds.EndMissing)) (le-ltb (length ls) (length ls) (omega arith))
+      ∙ ap (λ (b : Bool). cond b (fault_at ls (length ls)) (wrong_if (not (is_end (section_at ls))) kinds.EndMissing))
+      (le-ltb (length ls) (length ls) (omega arith))
 
   number_is : (i : ℕ) → line_number bytes i ≡ i + 1
   number_is i = ap (λ (b : Bool). cond b 0 (i + 1)) (le-ltb byte_limit (length bytes) fits)
@@ -169,11 +173,13 @@ module _ (bytes : List ℕ) (fits : length bytes ≤ byte_limit) where
   good_before i le good j lt = judged_line j (omega arith) ∙ good j lt
 
   -- a line that isn't good
-  pub stopped : (i : ℕ) (k : FileKind) → i < length ls → AreGood (fault_at ls) i → fault_at ls i ≡ Some k → (n : ℕ) → n ≡ i + 1 → FirstFault bytes (record { line = n; kind = k })
+  pub stopped : (i : ℕ) (k : FileKind) → i < length ls → AreGood (fault_at ls) i → fault_at ls i ≡ Some k → (n : ℕ) → n ≡ i + 1
+      → FirstFault bytes (record { line = n; kind = k })
   stopped i k lt good h n e = record { place = i; before = good_before i (omega arith) good; there = judged_line i lt ∙ h; line = e ∙ sym (number_is i) }
 
   -- no ENDATA
-  pub unended : AreGood (fault_at ls) (length ls) → is_end (section_at ls) ≡ false → (n : ℕ) → n ≡ length ls + 1 → FirstFault bytes (record { line = n; kind = kinds.EndMissing })
+  pub unended : AreGood (fault_at ls) (length ls) → is_end (section_at ls) ≡ false → (n : ℕ) → n ≡ length ls + 1
+      → FirstFault bytes (record { line = n; kind = kinds.EndMissing })
   unended good h n e = record {
     place = length ls;
     before = good_before (length ls) (omega arith) good;
@@ -199,7 +205,8 @@ module _ (bytes : List ℕ) (fits : length bytes ≤ byte_limit) where
   no_fault c f is first = by (nat_lt (length ls) first.place) refl
     where
       by : (b : Bool) → nat_lt (length ls) first.place ≡ b → ⊥
-      by true e = none≢some (sym (behind_all first.place (ltb-true (length ls) first.place e) ∙ ap (λ (s : Section). wrong_if (not (is_end s)) kinds.EndMissing) is.ended) ∙ first.there)
+      by true e = none≢some (sym (behind_all first.place (ltb-true (length ls) first.place e)
+          ∙ ap (λ (s : Section). wrong_if (not (is_end s)) kinds.EndMissing) is.ended) ∙ first.there)
       by false e = none≢some (sym (good_all c is first.place (Rattle.std.proofs.lemmas.Bool.ltb-false (length ls) first.place e)) ∙ first.there)
 
   -- a text that is good as far as a place has a fault, or is good further
@@ -227,7 +234,8 @@ module _ (bytes : List ℕ) (fits : length bytes ≤ byte_limit) where
       ended Limits h = absurd (true≢false (sym h))
       ended End h = refl
 
-      at_end : AreGood (fault_at ls) (length ls) → (b : Bool) → is_end (section_at ls) ≡ b → ((c : Contents) × Mps bytes c) ⊎ ((f : FileFault) × FirstFault bytes f)
+      at_end : AreGood (fault_at ls) (length ls) → (b : Bool) → is_end (section_at ls) ≡ b
+          → ((c : Contents) × Mps bytes c) ⊎ ((f : FileFault) × FirstFault bytes f)
       at_end good true e = inl (contents_of (seen ls).draft, record { fits = fits; good = good; ended = ended (section_at ls) e; contents = refl })
       at_end good false e = inr (record { line = length ls + 1; kind = kinds.EndMissing }, unended good e (length ls + 1) refl)
 
@@ -266,7 +274,8 @@ model_or_fault bytes = by (nat_lt byte_limit (length bytes)) refl
 ready_at : (ls : List Line) (i : ℕ) → i ≤ length ls → AreGood (fault_at ls) i → Ready (take i ls)
 ready_at ls zero le good = ready_start
 ready_at ls (suc i) le good =
-    let good_there : judge (seen (take i ls)) (get_or ls i blank) ≡ None = (both_none (judge (seen (take i ls)) (get_or ls i blank)) _ (good i (omega arith))).0 in
+    let good_there : judge (seen (take i ls)) (get_or ls i blank) ≡ None =
+    (both_none (judge (seen (take i ls)) (get_or ls i blank)) _ (good i (omega arith))).0 in
     let next_one : i + 1 ≡ suc i = omega arith in
     let lt : i < length ls = omega arith in
     let one_more : take i ls ++ get_or ls i blank ∷ [] ≡ take (suc i) ls = sym (take_more ls i blank lt) ∙ ap (λ (k : ℕ). take k ls) next_one in
@@ -311,7 +320,8 @@ module _ (bytes : List ℕ) (s : Seen) (n : ℕ) (read : IsRead bytes s n) where
   -- none are
   pub accepted : (c : Contents) → first_crossed s.draft ≡ None → c ≡ contents_of s.draft → Mps bytes c
   accepted c e said =
-      let line : judge_line before last ≡ None = uncrossed before last read.line (crossed_is ∙ ap (λ (o : Option Crossed). wrong_if (is_some o) kinds.Crossed) e) in
+      let line : judge_line before last ≡ None = uncrossed before last read.line
+      (crossed_is ∙ ap (λ (o : Option Crossed). wrong_if (is_some o) kinds.Crossed) e) in
       let further : So all (read.place + 1) s = goes all read.place before last so refl read.within read.line s after_is line in
       let lt : read.place < length all = read.within in
       let whole : So all (length all) s = to_the_end all (read.place + 1) s further read.ended (omega arith) in
@@ -325,7 +335,8 @@ module _ (bytes : List ℕ) (s : Seen) (n : ℕ) (read : IsRead bytes s n) where
 
 -- the lines of the bytes, as pieces
 
-pub line_at : (pieces : List (List ℕ)) (bytes : List ℕ) (i : ℕ) (d : List ℕ) → pieces ≡ lines_of bytes → i < length pieces → line_of (get_or pieces i d) ≡ get_or (text_lines bytes) i blank
+pub line_at : (pieces : List (List ℕ)) (bytes : List ℕ) (i : ℕ) (d : List ℕ) → pieces ≡ lines_of bytes → i < length pieces
+    → line_of (get_or pieces i d) ≡ get_or (text_lines bytes) i blank
 line_at pieces bytes i d e lt = sym (get_or-map line_of pieces i d blank lt) ∙ ap (λ (xs : List (List ℕ)). get_or (map line_of xs) i blank) e
 
 pub lines_count : (pieces : List (List ℕ)) (bytes : List ℕ) → pieces ≡ lines_of bytes → length (text_lines bytes) ≡ length pieces

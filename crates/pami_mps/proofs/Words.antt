@@ -12,13 +12,15 @@ skip (x ∷ xs) (suc i) within before = rw (before 0 (omega arith)) (skip xs i (
 hangs : (x : ℕ) (xs : List ℕ) → is_blank x ≡ false → stops xs ≡ false → words_of (x ∷ xs) ≡ hang x (words_of xs)
 hangs x xs e f = rw (e, f) refl
 
-pub one_word : (xs : List ℕ) (i : ℕ) → i < length xs → ((k : ℕ) → k < suc i → is_blank (get_or xs k 0) ≡ false) → (suc i < length xs → is_blank (get_or xs (suc i) 0) ≡ true) → words_of xs ≡ take (suc i) xs ∷ words_of (drop (suc i) xs)
+pub one_word : (xs : List ℕ) (i : ℕ) → i < length xs → ((k : ℕ) → k < suc i → is_blank (get_or xs k 0) ≡ false)
+    → (suc i < length xs → is_blank (get_or xs (suc i) 0) ≡ true) → words_of xs ≡ take (suc i) xs ∷ words_of (drop (suc i) xs)
 one_word [] i within before found = absurd (omega arith)
 one_word (x ∷ []) zero within before found = rw (before 0 (omega arith)) refl
 one_word (x ∷ y ∷ ys) zero within before found = rw (before 0 (omega arith), found (omega arith)) refl
 one_word (x ∷ []) (suc i) within before found = absurd (omega arith)
 one_word (x ∷ y ∷ ys) (suc i) within before found =
-    hangs x (y ∷ ys) (before 0 (omega arith)) (before 1 (omega arith)) ∙ (ap (hang x) (one_word (y ∷ ys) i (omega arith) (λ k lt. before (suc k) (omega arith)) (λ lt. found (omega arith))))
+    hangs x (y ∷ ys) (before 0 (omega arith)) (before 1 (omega arith))
+    ∙ (ap (hang x) (one_word (y ∷ ys) i (omega arith) (λ k lt. before (suc k) (omega arith)) (λ lt. found (omega arith))))
 
 pub words_on : (done : List (List ℕ)) (whole rest : List ℕ) (i j : ℕ) → done ++ words_of rest ≡ words_of whole
     → 0 < length rest → is_blank (get_or rest 0 0) ≡ false

@@ -9,7 +9,8 @@ returns-in-Ok-clause-accepted c =
     let constant = c.in-Ok.ensures.constant in
     let rows = c.in-Ok.ensures.rows in
     let columns = c.in-Ok.ensures.columns in
-    accepted c.args.bytes.now (seen_by_reader c.in_ok-reader.field-0.reader) c.in_ok-reader.field-0.line c.in_ok-reader.ensures.read (contents c.in-Ok.model) c.in-Ok.ensures.judged
+    accepted c.args.bytes.now (seen_by_reader c.in_ok-reader.field-0.reader) c.in_ok-reader.field-0.line c.in_ok-reader.ensures.read
+    (contents c.in-Ok.model) c.in-Ok.ensures.judged
     (λ i. record { sense = sense i; constant = constant i; rows = rows i; columns = columns i })
 
 pub returns-in-Err-Named-clause-refused : goal.returns-in-Err-Named-clause-refused

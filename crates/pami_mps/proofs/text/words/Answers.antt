@@ -10,8 +10,10 @@ loop-rest-init c =
 
 pub loop-rest-preserved : goal.loop-rest-preserved
 loop-rest-preserved c =
-    let e : map (λ x. x.now) c.push.new.self.items ≡ map (λ x. x.now) c.loop-rest.out.items ++ c.split_at.result.0.now ∷ [] = rw c.in_ok-push.ensures.items (map_push _ c.loop-rest.out.items c.split_at.result.0) in
+    let e : map (λ x. x.now) c.push.new.self.items ≡ map (λ x. x.now) c.loop-rest.out.items ++ c.split_at.result.0.now ∷ [] =
+    rw c.in_ok-push.ensures.items (map_push _ c.loop-rest.out.items c.split_at.result.0) in
     let n = c.word_length.ensures in
     let m = c.blanks-in-loop-rest.ensures in
     goes_on (map (λ x. x.now) c.loop-rest.out.items) (map (λ x. x.now) c.push.new.self.items) c.args.line.now c.loop-rest.rest.now c.split_at.result.0.now c.split_at.result.1.now c.word_length.result c.blanks-in-loop-rest.result
-    c.loop-rest.invariant e c.split_at.ensures.front c.split_at.ensures.back (some_left c.loop-rest.rest.now c.is_empty.result c.is_empty.ensures c.loop-rest-test.true) n.within n.before n.found m.within m.before m.found
+    c.loop-rest.invariant e c.split_at.ensures.front c.split_at.ensures.back
+    (some_left c.loop-rest.rest.now c.is_empty.result c.is_empty.ensures c.loop-rest-test.true) n.within n.before n.found m.within m.before m.found
