@@ -6,3 +6,4 @@ pub mod Contents
 pub mod Number
 pub mod Refusal
 pub mod FirstFault
+pub mod KindWords

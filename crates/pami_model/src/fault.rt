@@ -85,6 +85,44 @@ pub enum FileKind {
     TooLong,
 }
 
+impl FileKind {
+    ghost use Rattle.std.specs.Prelude.{◌≡◌};
+    ghost use Rattle.pami_model.specs.KindWords.{kind_word};
+
+    /// The word by which a refusal tells this kind.
+    pub fn word(&self) -> &'static [u8]
+        ensures { result.now ≡ kind_word self.now }
+    {
+        match self {
+            FileKind::Byte => b"byte",
+            FileKind::Section => b"section",
+            FileKind::Order => b"order",
+            FileKind::Words => b"words",
+            FileKind::Syntax => b"syntax",
+            FileKind::RowType => b"row-type",
+            FileKind::BoundType => b"bound-type",
+            FileKind::Sense => b"sense",
+            FileKind::Integer => b"integer",
+            FileKind::DuplicateRow => b"duplicate-row",
+            FileKind::DuplicateColumn => b"duplicate-column",
+            FileKind::DuplicateEntry => b"duplicate-entry",
+            FileKind::UnknownRow => b"unknown-row",
+            FileKind::UnknownColumn => b"unknown-column",
+            FileKind::Number => b"number",
+            FileKind::Wide => b"wide",
+            FileKind::Infinite => b"infinite",
+            FileKind::RangeOnN => b"range-on-n",
+            FileKind::Crossed => b"crossed",
+            FileKind::NameLong => b"name-long",
+            FileKind::TooManyRows => b"too-many-rows",
+            FileKind::TooManyColumns => b"too-many-columns",
+            FileKind::TooManyEntries => b"too-many-entries",
+            FileKind::EndMissing => b"end-missing",
+            FileKind::TooLong => b"too-long",
+        }
+    }
+}
+
 /// The first thing that is wrong with a model file, and its line, counted from 1.
 #[derive(Clone, Copy, Debug, PartialEq, Eq)]
 pub struct FileFault {
