@@ -10,7 +10,6 @@ mod form;
 mod list;
 #[cfg(test)]
 mod tests;
-pub mod width_laws;
 
 pub use build::form_of;
 pub use form::{Form, WideBox};
