@@ -15,4 +15,4 @@ mod words;
 pub use event::{Event, EventList, Move, Record};
 pub use pami_method::{Mode, Place, Spot};
 pub use print::{print_event, push_event};
-pub use words::push_place;
+pub use words::{push_place, push_variable};
