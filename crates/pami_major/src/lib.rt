@@ -16,6 +16,8 @@ mod shift;
 mod solve;
 mod step;
 mod take;
+#[cfg(test)]
+mod tests;
 mod tried;
 mod walk;
 mod within;
