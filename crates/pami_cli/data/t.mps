@@ -1,11 +1,12 @@
 NAME T
 ROWS
  N c
- L c1
- G c2
+ G c1
 COLUMNS
- x c 1 c1 2
- x c2 1
+ x c 1 c1 1
+ y c 2 c1 1
 RHS
- c1 5
+ c1 3
+BOUNDS
+ UP B x 1
 ENDATA

@@ -1,11 +1,9 @@
-pub mod Accepted
 pub mod Answers
+pub mod Readings
 pub mod Runs
 pub mod Lines
 pub mod Objectives
 pub mod Listed
-pub mod Narrow
-pub mod FileStarts
 pub mod Started
 pub mod WalkEnds
 pub mod Begun

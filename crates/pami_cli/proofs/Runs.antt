@@ -1,23 +1,25 @@
 -- What a call has to write, and that it is one text.
 use Rattle.std.proofs.lemmas.List.{length-replicate}
 use Rattle.std.proofs.Common.{suc, ◌≡◌, ℕ, ◌<◌, ◌⊎◌, inl, inr, List, length, Option, None, Some, Result, Ok, Err, refl, sym, ap, ◌∙◌, subst, arith, replicate}
-use Rattle.std.specs.Result.{IfOk}
+use Rattle.std.specs.Result.{IfOk, OnErr}
 use Rattle.pami_frac.specs.declared.fault.OutOfMemory.{OutOfMemory}
 use Rattle.pami_edge.specs.Outside.{Files, HasFile, HasLongFile}
-use Rattle.pami_edge.specs.Calls.{ShelfFailed, SinkFailed, Wrote}
+use Rattle.pami_edge.specs.Calls.{ShelfFailed, SinkFailed, Wrote, WroteNothing}
 use Rattle.pami_words.specs.declared.command.BadWords.{BadWords}
 use Rattle.pami_words.specs.declared.command.Command.{Command}
 use Rattle.pami_words.specs.declared.command.Command.TheVariants.{Solve}
 use Rattle.pami_model.specs.Contents.{Contents}
-use Rattle.pami_mps.specs.Mps.{Mps, byte_limit}
-use Rattle.pami_mps.proofs.Whole.{one_model, too_long}
+use Rattle.pami_model.specs.declared.fault.FileFault.{FileFault}
+use Rattle.pami_model.specs.Rules.{byte_limit}
 use Rattle.pami_cli.specs.declared.status.Status.{Status}
 use Rattle.pami_cli.specs.declared.status.Status.TheVariants as statuses
 use Rattle.pami_cli.specs.declared.answer.Answer.{Answer}
 use Rattle.pami_cli.specs.Text.{refused_text}
-use Rattle.pami_cli.specs.Answer.{AnswersModel}
-use Rattle.pami_cli.specs.Run.{Answers, IsModelAnswer, IsRefused, IsAnswered, IsDue, IsWrittenBy, IsComplete, Call, AskFor, AreBad, Ends, IsOrFault}
-use Rattle.pami_cli.proofs.Answers.{one_model_answer}
+use Rattle.pami_cli.specs.Reading.{Format, AsMps, IsTextOf, IsFirstFaultOf, format_in}
+use Rattle.pami_cli.specs.Answer.{AnswersModel, AnswersWide}
+use Rattle.pami_cli.specs.Run.{Answers, IsModelAnswer, IsRefused, Refuses, WaitsForPhaseOne, IsFileRefused, IsAnswered, IsDue, IsWrittenBy, IsComplete, Call, AskFor, AreBad, Ends, IsOrFault}
+use Rattle.pami_cli.proofs.Answers.{one_model_answer, refused_model_is_wide, model_waits}
+use Rattle.pami_cli.proofs.Readings.{one_text, one_refusal, text_or_fault, long_fault, long_first}
 
 some_same : {A : Type 0} {x y : A} → Some x ≡ Some y → x ≡ y
 some_same e = cc
@@ -30,55 +32,88 @@ bad_asked : {bad : BadWords} {file : List ℕ} {limit : ℕ} → ◌≡◌ {A = 
 bad_asked e = cc
 
 -- a model's answer is that of its text
-pub answered_ok : (bytes : List ℕ) (limit : ℕ) (c : Contents) (r : Result Answer OutOfMemory) → Mps bytes c → IfOk r (λ a. AnswersModel c limit a.status a.text.items) → IfOk r (λ a. Answers bytes limit a.status a.text.items)
-answered_ok bytes limit c (Ok a) m h = inl (record { model = c; text_of = m; answer = h })
-answered_ok bytes limit c (Err e) m h = h
+pub answered_ok : (format : Format) (bytes : List ℕ) (limit : ℕ) (c : Contents) (r : Result Answer OutOfMemory) → IsTextOf format bytes c → IfOk r (λ a. AnswersModel c limit a.status a.text.items)
+    → IfOk r (λ a. Answers format bytes limit a.status a.text.items)
+answered_ok format bytes limit c (Ok a) m h = inl (record { model = c; text_of = m; answer = h })
+answered_ok format bytes limit c (Err e) m h = h
+
+-- a file is refused at its first fault
+pub refused_ok : (format : Format) (bytes : List ℕ) (limit : ℕ) (fault : FileFault) (r : Result Answer OutOfMemory) → IsFirstFaultOf format bytes fault
+    → IfOk r (λ a. a.status ≡ statuses.File) → IfOk r (λ a. a.text.items ≡ refused_text fault) → IfOk r (λ a. Answers format bytes limit a.status a.text.items)
+refused_ok format bytes limit fault (Ok a) first e w = inr (record { fault = fault; first = first; status_is = e; written_is = w })
+refused_ok format bytes limit fault (Err x) first e w = tt
 
 -- some list is longer than any number
 long_list : (n : ℕ) → (bytes : List ℕ) × (n < length bytes)
 long_list n = (replicate (suc n) 0, rw length-replicate (omega arith))
 
--- a file that is too long has bytes, which are no text of a model
-pub long_file : (files : Option Files) (name : List ℕ) → HasLongFile files name byte_limit → (bytes : List ℕ) × (HasFile files name bytes × IsRefused bytes statuses.File refused_text)
-long_file None name h = let long = long_list byte_limit in (long.0, (tt, record { no_model = too_long long.0 long.1; status_is = refl; written_is = refl }))
-long_file (Some files) name h = (h.0, (h.1, record { no_model = too_long h.0 h.2; status_is = refl; written_is = refl }))
+-- a file that is too long has bytes, with that fault
+long_file : (format : Format) (files : Option Files) (name : List ℕ) → HasLongFile files name byte_limit
+    → (bytes : List ℕ) × (HasFile files name bytes × IsFirstFaultOf format bytes long_fault)
+long_file format None name h = let long = long_list byte_limit in (long.0, (tt, long_first format long.0 long.1))
+long_file format (Some files) name h = (h.0, (h.1, long_first format h.0 h.2))
 
 -- a call ends with what it wrote of an answer
 module _ (k : Call) (result : Status) (file : List ℕ) (limit : ℕ) (asks : AskFor k.words file limit) where
-  pub ends_answered : (bytes : List ℕ) (s : Status) (t : List ℕ) → HasFile k.shelf.files file bytes → Answers bytes limit s t
+  pub ends_answered : (bytes : List ℕ) (s : Status) (t : List ℕ) → HasFile k.shelf.files file bytes → Answers (format_in k.words) bytes limit s t
       → IsWrittenBy k.sink result s t → Ends k result
   ends_answered bytes s t h a w =
       inr (record { due = s; written = t; is_due = inr (inr (record { file = file; limit = limit; bytes = bytes; asks = asks; under = h; answer = a })); as_far = w })
 
-  pub ends_too_long : HasLongFile k.shelf.files file byte_limit → IsWrittenBy k.sink result statuses.File refused_text → Ends k result
-  ends_too_long long w = let l = long_file k.shelf.files file long in ends_answered l.0 statuses.File refused_text l.1.0 (inr l.1.1) w
+  -- the same of an answer that memory may have run out for
+  pub ends_answer : (bytes : List ℕ) (r : Result Answer OutOfMemory) → HasFile k.shelf.files file bytes → IfOk r (λ a. Answers (format_in k.words) bytes limit a.status a.text.items)
+      → IfOk r (λ a. IsWrittenBy k.sink result a.status a.text.items) → OnErr r ((result ≡ statuses.OutOfMemory) × WroteNothing k.sink) → Ends k result
+  ends_answer bytes (Ok a) h is w n = ends_answered bytes a.status a.text.items h is w
+  ends_answer bytes (Err e) h is w n = inl n
+
+  -- and of a file that is too long
+  pub ends_long : (r : Result Answer OutOfMemory) → HasLongFile k.shelf.files file byte_limit → IfOk r (λ a. a.status ≡ statuses.File) → IfOk r (λ a. a.text.items ≡ refused_text long_fault)
+      → IfOk r (λ a. IsWrittenBy k.sink result a.status a.text.items) → OnErr r ((result ≡ statuses.OutOfMemory) × WroteNothing k.sink) → Ends k result
+  ends_long r long e t w n =
+      let l = long_file (format_in k.words) k.shelf.files file long in
+      ends_answer l.0 r l.1.0 (refused_ok (format_in k.words) l.0 limit long_fault r l.1.1 e t) w n
 
 -- what the words and the bytes are answered is one status and one text
-module _ (bytes : List ℕ) (limit : ℕ) where
-  same_model : (s t : Status) (w v : List ℕ) (a : IsModelAnswer bytes limit s w) (b : IsModelAnswer bytes limit t v) → AnswersModel a.model limit t v
-  same_model s t w v a b = subst (λ c. AnswersModel c limit t v) (one_model bytes b.model a.model b.text_of a.text_of) b.answer
+module _ (format : Format) (bytes : List ℕ) (limit : ℕ) where
+  same_model : (s t : Status) (w v : List ℕ) (a : IsModelAnswer format bytes limit s w) (b : IsModelAnswer format bytes limit t v) → AnswersModel a.model limit t v
+  same_model s t w v a b = subst (λ c. AnswersModel c limit t v) (one_text format bytes b.model a.model b.text_of a.text_of) b.answer
 
-  one_answer : (s t : Status) (w v : List ℕ) → Answers bytes limit s w → Answers bytes limit t v → (s ≡ t) × (w ≡ v)
+  pub one_answer : (s t : Status) (w v : List ℕ) → Answers format bytes limit s w → Answers format bytes limit t v → (s ≡ t) × (w ≡ v)
   one_answer s t w v (inl a) (inl b) = one_model_answer a.model limit s t w v a.answer (same_model s t w v a b)
-  one_answer s t w v (inl a) (inr b) = absurd (b.no_model a.model a.text_of)
-  one_answer s t w v (inr a) (inl b) = absurd (a.no_model b.model b.text_of)
-  one_answer s t w v (inr a) (inr b) = (a.status_is ∙ sym b.status_is, a.written_is ∙ sym b.written_is)
+  one_answer s t w v (inl a) (inr b) = absurd (text_or_fault format bytes a.model b.fault a.text_of b.first)
+  one_answer s t w v (inr a) (inl b) = absurd (text_or_fault format bytes b.model a.fault b.text_of a.first)
+  one_answer s t w v (inr a) (inr b) = (
+    a.status_is ∙ sym b.status_is,
+    a.written_is ∙ ap refused_text (one_refusal format bytes a.fault b.fault a.first b.first) ∙ sym b.written_is,
+  )
+
+  -- status 3 is for a first fault or a width that doesn't fit
+  pub refuses : (w : List ℕ) → Answers format bytes limit statuses.File w → Refuses format bytes w
+  refuses w (inl a) = inr (a.model, a.text_of, refused_model_is_wide a.model limit w a.answer)
+  refuses w (inr b) = inl b
+
+  -- and status 30 for a model that waits for phase one
+  pub waits : (w : List ℕ) → Answers format bytes limit statuses.NeedsPhaseOne w → WaitsForPhaseOne format bytes w
+  waits w (inl a) =
+      let m = model_waits a.model limit w a.answer in
+      record { model = a.model; text_of = a.text_of; widths = m.0; answer = m.1 }
+  waits w (inr b) = let e = b.status_is in absurd cc
 
 -- exactly that answer, or a fault in its place
 abbrev IsExactly : Call → Status → Status → List ℕ → Type 0
 IsExactly k result s w = ((result ≡ s) × Wrote k.sink w) ⊎ IsOrFault result statuses.ReadFault
 
-module _ (k : Call) (files : Files) (file : List ℕ) (limit : ℕ) (bytes written : List ℕ) (status : Status) (told : k.shelf.files ≡ Some files) (stands : files file ≡ Some bytes) (asks : AskFor k.words file limit) (answer : Answers bytes limit status written) where
-  same_answer : (s : Status) (w : List ℕ) (a : IsAnswered k s w) → Answers bytes limit s w
+module _ (k : Call) (files : Files) (file : List ℕ) (limit : ℕ) (bytes written : List ℕ) (status : Status) (told : k.shelf.files ≡ Some files) (stands : files file ≡ Some bytes) (asks : AskFor k.words file limit) (answer : Answers (format_in k.words) bytes limit status written) where
+  same_answer : (s : Status) (w : List ℕ) (a : IsAnswered k s w) → Answers (format_in k.words) bytes limit s w
   same_answer s w a =
       let n : (a.file ≡ file) × (a.limit ≡ limit) = same_asked (sym a.asks ∙ asks) in
       let h : files a.file ≡ Some a.bytes = subst (λ f. HasFile f a.file a.bytes) told a.under in
       let b : a.bytes ≡ bytes = some_same (sym h ∙ ap files n.0 ∙ stands) in
-      subst (λ x. Answers x limit s w) b (subst (λ x. Answers a.bytes x s w) n.1 a.answer)
+      subst (λ x. Answers (format_in k.words) x limit s w) b (subst (λ x. Answers (format_in k.words) a.bytes x s w) n.1 a.answer)
 
   agreed : (result due : Status) (w : List ℕ) → IsAnswered k due w → (result ≡ due) × Wrote k.sink w → IsExactly k result status written
   agreed result due w d g =
-      let o = one_answer bytes limit due status w written (same_answer due w d) answer in
+      let o = one_answer (format_in k.words) bytes limit due status w written (same_answer due w d) answer in
       inl (g.0 ∙ o.0, subst (Wrote k.sink) o.1 g.1)
 
   exactly_due : (result due : Status) (w : List ℕ) → IsDue k due w → (result ≡ due) × Wrote k.sink w → IsExactly k result status written
@@ -122,3 +157,26 @@ ends_bad_words k bad result (inr w) = go w.as_far
     go : IsWrittenBy k.sink result w.due w.written → (result ≡ statuses.Words) ⊎ ((result ≡ statuses.WriteFault) ⊎ (result ≡ statuses.OutOfMemory))
     go (inl g) = inl (g.0 ∙ due w.due w.written w.is_due)
     go (inr f) = inr (inl f.0)
+
+-- status 3 comes only where the file is refused
+pub ends_refused : (k : Call) → Ends k statuses.File → IsFileRefused k
+ends_refused k (inl o) = let e = o.0 in absurd cc
+ends_refused k (inr w) = go w.as_far
+  where
+    at_status : (s : Status) (t : List ℕ) → s ≡ statuses.File → IsDue k s t → Wrote k.sink t → IsFileRefused k
+    at_status s t e (inl d) g = let f = sym e ∙ d.status_is in absurd cc
+    at_status s t e (inr (inl d)) g = let f = sym e ∙ d.status_is in absurd cc
+    at_status s t e (inr (inr d)) g = record {
+      file = d.file;
+      limit = d.limit;
+      bytes = d.bytes;
+      written = t;
+      asks = d.asks;
+      under = d.under;
+      refuses = refuses (format_in k.words) d.bytes d.limit t (subst (λ x. Answers (format_in k.words) d.bytes d.limit x t) e d.answer);
+      wrote = g;
+    }
+
+    go : IsWrittenBy k.sink statuses.File w.due w.written → IsFileRefused k
+    go (inl g) = at_status w.due w.written (sym g.0) w.is_due g.1
+    go (inr f) = let e = f.0 in absurd cc

@@ -35,13 +35,15 @@ use Rattle.pami_log.specs.declared.event.Event.{Event}
 use Rattle.pami_model_form.specs.Named.{names_of, counts_of, named_of}
 use Rattle.pami_log.specs.Events.{event_lines, events_of}
 use Rattle.pami_log.proofs.Lines.{walk_is}
+use Rattle.pami_form.specs.declared.form.WideBox.{WideBox}
+use Rattle.pami_form.specs.Widths.{first_wide}
 use Rattle.pami_cli.specs.declared.status.Status.{Status}
 use Rattle.pami_cli.specs.declared.status.Status.TheVariants as statuses
 use Rattle.pami_model_form.specs.ModelForm.{model_form}
-use Rattle.pami_cli.specs.Text.{begun_text, run_text, phase_one_text}
+use Rattle.pami_cli.specs.Text.{begun_text, run_text, phase_one_text, wide_text}
 use Rattle.pami_cli.specs.declared.answer.Answer.{Answer as Answered}
 use Rattle.pami_cli.specs.Solved.{IsStart}
-use Rattle.pami_cli.specs.Answer.{options_of, HasStatus, HoldsFor, AnswersRun, AnswersPhaseOne, AnswersModel}
+use Rattle.pami_cli.specs.Answer.{options_of, HasStatus, HoldsFor, AnswersRun, AnswersPhaseOne, AnswersForm, AnswersModel}
 
 -- ---- texts
 -- the texts of events are the text of their lines
@@ -122,17 +124,20 @@ module _ (c : Contents) (limit : ℕ) (f : Form) (is : f ≡ model_form c) (uncr
     written_is = w;
   }
 
+-- ---- a width that doesn't fit
+pub wide_model : (c : Contents) (limit : ℕ) (box : WideBox) (r : Result Answered OutOfMemory) → first_wide (model_form c).bounds ≡ Some box → IfOk r (λ a. a.status ≡ statuses.File)
+    → IfOk r (λ a. a.text.items ≡ wide_text c box.variable) → IfOk r (λ a. AnswersModel c limit a.status a.text.items)
+wide_model c limit box (Ok a) first e w = inr (record { box = box; first = first; status_is = e; written_is = w })
+wide_model c limit box (Err x) first e w = tt
+
+pub fitting_model : (c : Contents) (limit : ℕ) (r : Result Answered OutOfMemory) → first_wide (model_form c).bounds ≡ None → IfOk r (λ a. AnswersForm c limit a.status a.text.items) → IfOk r (λ a. AnswersModel c limit a.status a.text.items)
+fitting_model c limit (Ok a) fits h = inl (record { widths = fits; answer = h })
+fitting_model c limit (Err x) fits h = tt
+
 -- ---- programs
 if_ok_both : {A E : Type 0} {P Q R : A → Type 0} (r : Result A E) → IfOk r P → IfOk r Q → ((x : A) → P x → Q x → R x) → IfOk r R
 if_ok_both (Ok x) p q f = f x p q
 if_ok_both (Err e) p q f = tt
-
--- the form of lists that were lent
-pub lent_form : (columns cs : List (List Fraction)) (bounds bs : List Bounds) (costs ds : List Fraction) (g : Form) → cs ≡ columns → bs ≡ bounds → ds ≡ costs → form_by columns bounds costs ≡ g → form_by cs bs ds ≡ g
-lent_form columns cs bounds bs costs ds g e h k is = ap (λ x. form_by x bs ds) e ∙ ap (λ x. form_by columns x ds) h ∙ ap (form_by columns bounds) k ∙ is
-
-pub lent_kept : (columns cs : List (List Fraction)) (bounds bs : List Bounds) (costs ds : List Fraction) → cs ≡ columns → bs ≡ bounds → ds ≡ costs → IsForm columns bounds costs → IsForm cs bs ds
-lent_kept columns cs bounds bs costs ds e h k is = subst (λ x. IsForm x bs ds) (sym e) (subst (λ x. IsForm columns x ds) (sym h) (subst (IsForm columns bounds) (sym k) is))
 
 module _ (c : Contents) (limit : ℕ) (cs : List (List Fraction)) (bs : List Bounds) (ds : List Fraction) (form : IsForm cs bs ds) (is : form_by cs bs ds ≡ model_form c) where
   abbrev lists_form : Form
@@ -146,7 +151,7 @@ module _ (c : Contents) (limit : ℕ) (cs : List (List Fraction)) (bs : List Bou
 
   pub refused_model : (r : Result Answered OutOfMemory) (refused : Refused) → ((s : Fresh) → IsFresh lists_form (starting_basis lists_form) s → start_refused lists_form s ≡ Some refused) →
       IfOk r (λ a. a.status ≡ statuses.Overflow) → IfOk r (λ a. a.text.items ≡ text (head_lines (counts_of c)) ++ line (codes "answer" ∷ codes "overflow" ∷ refused_words (record { task = Start; refused = refused }))) →
-      IfOk r (λ a. AnswersModel c limit a.status a.text.items)
+      IfOk r (λ a. AnswersForm c limit a.status a.text.items)
   refused_model r refused h p q = if_ok_both r p q (λ a e w. inl (subst (λ s. AnswersRun c limit s a.text.items) (sym e) (refused_answers c limit lists_form is uncrossed_lists refused a.text.items h w)))
 
   module _ (st : ProgramState) (at : basis_of st ≡ starting_basis lists_form) (solved : IsSolvedAfresh lists_form st) (fits : (s : Fresh) → IsFresh lists_form (starting_basis lists_form) s → start_refused lists_form s ≡ None) where
@@ -169,7 +174,7 @@ module _ (c : Contents) (limit : ℕ) (cs : List (List Fraction)) (bs : List Bou
       pub feasible_model : result ≡ true → IsDualFeasible (model_form c) (starting_basis (model_form c))
       feasible_model e = subst (λ f. IsDualFeasible f (starting_basis f)) is (subst (IsDualFeasible lists_form) at ((signs lists_form (has_bounds cs bs ds form) solved).0 e))
 
-      pub phase_one_model : result ≡ false → (written : List ℕ) → written ≡ phase_one_text → AnswersModel c limit statuses.NeedsPhaseOne written
+      pub phase_one_model : result ≡ false → (written : List ℕ) → written ≡ phase_one_text → AnswersForm c limit statuses.NeedsPhaseOne written
       phase_one_model e written w =
           inr (phase_one_answers c limit lists_form is uncrossed_lists solved.fresh written start_fresh (fits solved.fresh start_fresh)
           (λ d. true≢false (sym ((signs lists_form (has_bounds cs bs ds form) solved).1 (subst (IsDualFeasible lists_form) (sym at) d)) ∙ e)) w)

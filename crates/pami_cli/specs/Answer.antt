@@ -1,5 +1,6 @@
--- What `solve` answers on a model: the run of its form, with the text of its record and the status of its answer.
-use Rattle.std.specs.Prelude.{◌≡◌, ℕ, ◌⊎◌, List, None}
+-- What `solve` answers on a model: the run of its form, with the text of its record and the status of its answer, or that it
+-- has none.
+use Rattle.std.specs.Prelude.{◌≡◌, ℕ, ◌⊎◌, List, None, Some}
 use Rattle.pami_linear.specs.Lists.{get}
 use Rattle.pami_model.specs.Contents.{Contents}
 use Rattle.pami_theory.specs.Fresh.{Fresh, IsFresh, IsDualFeasible}
@@ -12,7 +13,9 @@ use Rattle.pami_cli.specs.declared.status.Status.{Status}
 use Rattle.pami_cli.specs.declared.status.Status.TheVariants as statuses
 use Rattle.pami_model_form.specs.ModelForm.{model_form}
 use Rattle.pami_model_form.specs.Named.{named_of}
-use Rattle.pami_cli.specs.Text.{run_text, phase_one_text}
+use Rattle.pami_form.specs.declared.form.WideBox.{WideBox}
+use Rattle.pami_form.specs.Widths.{first_wide}
+use Rattle.pami_cli.specs.Text.{run_text, phase_one_text, wide_text}
 
 -- one row a major, a new elimination in each, and this limit of pivots
 abbrev pub options_of : ℕ → Options
@@ -58,6 +61,22 @@ pub record AnswersPhaseOne (c : Contents) (status : Status) (written : List ℕ)
   pub status_is : status ≡ statuses.NeedsPhaseOne
   pub written_is : written ≡ phase_one_text
 
+-- what a model is answered by its form: the run, or that phase one is needed
+abbrev pub AnswersForm : Contents → ℕ → Status → List ℕ → Type 0
+AnswersForm c limit status written = AnswersRun c limit status written ⊎ AnswersPhaseOne c status written
+
+-- every width of the form fits
+pub record AnswersFitting (c : Contents) (limit : ℕ) (status : Status) (written : List ℕ) : Type 0 where
+  pub widths : first_wide (model_form c).bounds ≡ None
+  pub answer : AnswersForm c limit status written
+
+-- a width doesn't fit: the model is refused at the least such variable
+pub record AnswersWide (c : Contents) (status : Status) (written : List ℕ) : Type 0 where
+  pub box : WideBox
+  pub first : first_wide (model_form c).bounds ≡ Some box
+  pub status_is : status ≡ statuses.File
+  pub written_is : written ≡ wide_text c box.variable
+
 -- a status and a whole text
 abbrev pub AnswersModel : Contents → ℕ → Status → List ℕ → Type 0
-AnswersModel c limit status written = AnswersRun c limit status written ⊎ AnswersPhaseOne c status written
+AnswersModel c limit status written = AnswersFitting c limit status written ⊎ AnswersWide c status written

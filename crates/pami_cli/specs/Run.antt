@@ -1,31 +1,48 @@
 -- What a run answers on the words of a call and the bytes under FILE, and how a call may end.
-use Rattle.std.specs.Prelude.{◌≡◌, ℕ, ◌⊎◌, List, [], ◌∷◌, Ok, Err}
+use Rattle.std.specs.Prelude.{◌≡◌, ℕ, ◌⊎◌, List, [], ◌∷◌, None, Ok, Err}
 use Rattle.pami_edge.specs.Outside.{HasFile}
 use Rattle.pami_edge.specs.Calls.{ShelfCall, SinkCall, ShelfFailed, SinkFailed, Wrote, WrotePart, WroteNothing}
 use Rattle.pami_words.specs.declared.command.Command.TheVariants.{Solve}
 use Rattle.pami_words.specs.Words.{read_outcome}
+use Rattle.pami_model.specs.declared.fault.FileFault.{FileFault}
 use Rattle.pami_model.specs.Contents.{Contents}
-use Rattle.pami_mps.specs.Mps.{Mps}
 use Rattle.pami_cli.specs.declared.status.Status.{Status}
-use Rattle.pami_cli.specs.declared.status.Status.TheVariants.{Words, File, ReadFault, WriteFault, OutOfMemory}
-use Rattle.pami_cli.specs.Answer.{AnswersModel}
+use Rattle.pami_cli.specs.declared.status.Status.TheVariants.{Words, File, ReadFault, WriteFault, OutOfMemory, NeedsPhaseOne}
+use Rattle.pami_form.specs.Widths.{first_wide}
+use Rattle.pami_model_form.specs.ModelForm.{model_form}
+use Rattle.pami_cli.specs.Reading.{Format, format_in, IsTextOf, IsFirstFaultOf}
+use Rattle.pami_cli.specs.Answer.{AnswersModel, AnswersWide, AnswersPhaseOne}
 use Rattle.pami_cli.specs.Text.{bad_words_text, refused_text, read_fault_text}
 
 -- the bytes are a text of a model that is answered so
-pub record IsModelAnswer (bytes : List ℕ) (limit : ℕ) (status : Status) (written : List ℕ) : Type 0 where
+pub record IsModelAnswer (format : Format) (bytes : List ℕ) (limit : ℕ) (status : Status) (written : List ℕ) : Type 0 where
   pub model : Contents
-  pub text_of : Mps bytes model
+  pub text_of : IsTextOf format bytes model
   pub answer : AnswersModel model limit status written
 
--- the bytes are no text of a model
-pub record IsRefused (bytes : List ℕ) (status : Status) (written : List ℕ) : Type 0 where
-  pub no_model : (c : Contents) → ¬ Mps bytes c
+-- the bytes have a first fault, and are refused at it
+pub record IsRefused (format : Format) (bytes : List ℕ) (status : Status) (written : List ℕ) : Type 0 where
+  pub fault : FileFault
+  pub first : IsFirstFaultOf format bytes fault
   pub status_is : status ≡ File
-  pub written_is : written ≡ refused_text
+  pub written_is : written ≡ refused_text fault
 
--- what `solve` answers on the bytes of its file, with this limit of pivots
-abbrev pub Answers : List ℕ → ℕ → Status → List ℕ → Type 0
-Answers bytes limit status written = IsModelAnswer bytes limit status written ⊎ IsRefused bytes status written
+-- what `solve` answers on the bytes of its file, read in this format, with this limit of pivots
+abbrev pub Answers : Format → List ℕ → ℕ → Status → List ℕ → Type 0
+Answers format bytes limit status written =
+    IsModelAnswer format bytes limit status written ⊎ IsRefused format bytes status written
+
+-- the file is no text of a model, or is one with a width that doesn't fit
+abbrev pub Refuses : Format → List ℕ → List ℕ → Type 0
+Refuses format bytes written =
+    IsRefused format bytes File written ⊎ ((c : Contents) × IsTextOf format bytes c × AnswersWide c File written)
+
+-- the file is a text of a model whose widths and starting values fit, and whose starting basis isn't dual feasible
+pub record WaitsForPhaseOne (format : Format) (bytes written : List ℕ) : Type 0 where
+  pub model : Contents
+  pub text_of : IsTextOf format bytes model
+  pub widths : first_wide (model_form model).bounds ≡ None
+  pub answer : AnswersPhaseOne model NeedsPhaseOne written
 
 -- the words ask to solve this file with this limit of pivots; they are in no table
 abbrev pub AskFor : List (List ℕ) → List ℕ → ℕ → Type 0
@@ -50,7 +67,7 @@ pub record IsAnswered (call : Call) (status : Status) (written : List ℕ) : Typ
   pub bytes : List ℕ
   pub asks : AskFor call.words file limit
   pub under : HasFile call.shelf.files file bytes
-  pub answer : Answers bytes limit status written
+  pub answer : Answers (format_in call.words) bytes limit status written
 
 -- the words are in the table, and the shelf failed
 pub record IsReadFault (call : Call) (status : Status) (written : List ℕ) : Type 0 where
@@ -91,6 +108,17 @@ Ends call result = ((result ≡ OutOfMemory) × WroteNothing call.sink) ⊎ IsWr
 -- memory ran out, or the answer on bytes that stand under FILE was written whole
 abbrev pub IsComplete : Call → Status → Type 0
 IsComplete call result = (result ≡ OutOfMemory) ⊎ ((written : List ℕ) × IsAnswered call result written × Wrote call.sink written)
+
+-- the words ask for a file that is refused, on bytes that stand under its name, and this was written
+pub record IsFileRefused (call : Call) : Type 0 where
+  pub file : List ℕ
+  pub limit : ℕ
+  pub bytes : List ℕ
+  pub written : List ℕ
+  pub asks : AskFor call.words file limit
+  pub under : HasFile call.shelf.files file bytes
+  pub refuses : Refuses (format_in call.words) bytes written
+  pub wrote : Wrote call.sink written
 
 -- this status, or one of the faults that may take the place of any
 abbrev pub IsOrFault : Status → Status → Type 0

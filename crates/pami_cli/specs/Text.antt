@@ -3,12 +3,15 @@ use Rattle.std.specs.Prelude.{ℕ, List, [], ◌∷◌, ◌++◌, codes, decimal
 use Rattle.std.specs.List.{flat_map}
 use Rattle.pami_algebra.specs.Fraction.{Fraction}
 use Rattle.pami_linear.specs.Lists.{get}
+use Rattle.pami_model.specs.declared.fault.FileFault.{FileFault}
+use Rattle.pami_model.specs.KindWords.{kind_word}
 use Rattle.pami_model.specs.Contents.{Contents}
 use Rattle.pami_theory.specs.Basis.{Basis, stand_at}
 use Rattle.pami_method.specs.declared.words.Options.{Options}
 use Rattle.pami_method.specs.Phases.{Record, Answer}
 use Rattle.pami_lines.specs.Line.{line, text}
 use Rattle.pami_lines.specs.Head.{head_lines, phase_line}
+use Rattle.pami_lines.specs.Names.{variable_word}
 use Rattle.pami_lines.specs.Letters.{basis_line}
 use Rattle.pami_lines.specs.Certificate.{optimal_lines, answer_line, certificate_of}
 use Rattle.pami_text.specs.Record.{run_lines}
@@ -37,8 +40,13 @@ limit_text c count b = text (answer_line (codes "limit" ∷ decimal count ∷ []
 abbrev pub bad_words_text : List ℕ
 bad_words_text = codes "bad words\n"
 
-abbrev pub refused_text : List ℕ
-refused_text = codes "refused\n"
+-- a file that is refused: the line and the kind of its first fault
+abbrev pub refused_text : FileFault → List ℕ
+refused_text fault = line (codes "refused" ∷ decimal fault.line ∷ kind_word fault.kind ∷ [])
+
+-- a model with a width that doesn't fit: the variable, in no line of the file
+abbrev pub wide_text : Contents → ℕ → List ℕ
+wide_text c v = line (codes "refused" ∷ decimal 0 ∷ codes "width" ∷ variable_word (names_of c) v ∷ [])
 
 abbrev pub read_fault_text : List ℕ
 read_fault_text = codes "read fault\n"

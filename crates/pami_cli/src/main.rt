@@ -6,9 +6,10 @@
 #![tactic(auto)]
 
 mod answer;
+pub mod answer_laws;
 mod certificate;
-pub mod file_laws;
 mod print;
+mod refuse;
 mod run;
 mod solve;
 mod status;

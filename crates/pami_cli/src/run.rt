@@ -1,18 +1,21 @@
 //! One run: the words, the file, its model and the answer, from bytes to bytes.
 
-ghost use Rattle.std.specs.Prelude.{◌≡◌, ◌≤◌, ◌⊎◌, ℕ, List, [], ◌∷◌, Some, IfOk};
+ghost use Rattle.std.specs.Prelude.{◌≡◌, ◌≤◌, ◌⊎◌, ℕ, List, [], ◌∷◌, Some, IfOk, OnErr};
 ghost use Rattle.pami_edge.specs.Outside.{Files};
-ghost use Rattle.pami_edge.specs.Calls.{shelf_call, sink_call, ShelfFailed, SinkFailed, ShelfCounted, SinkCounted, Wrote};
+ghost use Rattle.pami_edge.specs.Calls.{shelf_call, sink_call, ShelfFailed, SinkFailed, ShelfCounted, SinkCounted, Wrote, WroteNothing};
 ghost use Rattle.pami_method.specs.Walk.{greatest_limit};
 ghost use Rattle.pami_cli.specs.declared.status.Status.{Status};
-ghost use Rattle.pami_cli.specs.Run.{Answers, IsWrittenBy, Call, call, AskFor, AreBad, Ends, IsComplete, IsOrFault, AsksFor};
+ghost use Rattle.pami_cli.specs.Text.{refused_text};
+ghost use Rattle.pami_cli.specs.Reading.{AsMps, format_in};
+ghost use Rattle.pami_cli.specs.Run.{Answers, IsWrittenBy, Call, call, AskFor, AreBad, Ends, IsComplete, IsFileRefused, IsOrFault, AsksFor};
 
 use crate::answer::Answer;
+use crate::refuse::refused_file;
 use crate::solve::model_answer;
 use crate::status::Status;
 use pami_edge::{ReadStop, Shelf, Sink, Word, read_whole, write_whole};
 use pami_frac::{Fault, OutOfMemory};
-use pami_model::BYTE_LIMIT;
+use pami_model::{BYTE_LIMIT, FileFault, FileKind};
 use pami_mps::read_mps;
 use pami_words::{Command, read_words};
 use std::alloc::Global;
@@ -20,19 +23,25 @@ use std::alloc::Global;
 /// What the bytes of a file are answered.
 fn file_answer(alloc: Global, bytes: &[u8], limit: u32) -> Result<Answer, OutOfMemory>
     requires { limit ≤ greatest_limit }
-    ensures { IfOk result (λ a. Answers bytes.now limit a.status a.text.items) }
+    ensures { IfOk result (λ a. Answers AsMps bytes.now limit a.status a.text.items) }
 {
     match read_mps(alloc, bytes) {
         Ok(model) => model_answer(alloc, &model, limit),
-        Err(Fault::Named(_)) => {
-            let text = Vec::from_slice(alloc, b"refused\n")?;
-            Ok(Answer {
-                status: Status::File,
-                text,
-            })
-        }
+        Err(Fault::Named(fault)) => refused_file(alloc, fault),
         Err(Fault::OutOfMemory) => Err(OutOfMemory),
     }
+}
+
+/// What a file of more bytes than the limit is answered.
+fn long_answer(alloc: Global) -> Result<Answer, OutOfMemory>
+    ensures status { IfOk result (λ a. a.status ≡ Status.File) }
+    ensures text { IfOk result (λ a. a.text.items ≡ refused_text (record { line = 0; kind = FileKind.TooLong })) }
+{
+    let fault = FileFault {
+        line: 0,
+        kind: FileKind::TooLong,
+    };
+    refused_file(alloc, fault)
 }
 
 /// Writes what is due. The answer is its status, or WriteFault where the sink failed.
@@ -43,6 +52,18 @@ fn finish<K: Sink>(out: &mut K, status: Status, text: &[u8]) -> Status
     match write_whole(out, text) {
         Ok(()) => status,
         Err(_) => Status::WriteFault,
+    }
+}
+
+/// Writes an answer, or nothing where memory ran out for it.
+fn finish_answer<K: Sink>(out: &mut K, answer: Result<Answer, OutOfMemory>) -> Status
+    ensures written { IfOk answer (λ a. IsWrittenBy (sink_call K.Sink out.old out.new) result a.status a.text.items) }
+    ensures nothing { OnErr answer ((result ≡ Status.OutOfMemory) × WroteNothing (sink_call K.Sink out.old out.new)) }
+    ensures counted { SinkCounted (sink_call K.Sink out.old out.new) → result ≡ Status.WriteFault }
+{
+    match answer {
+        Ok(answer) => finish(out, answer.status, answer.text.as_slice()),
+        Err(_) => Status::OutOfMemory,
     }
 }
 
@@ -63,12 +84,9 @@ fn solve_file<S: Shelf, K: Sink>(
     ensures sink_faults { SinkCounted (sink_call K.Sink out.old out.new) → result ≡ Status.WriteFault }
 {
     match read_whole(alloc, shelf, file, BYTE_LIMIT as u32) {
-        Ok(bytes) => match file_answer(alloc, bytes.as_slice(), limit) {
-            Ok(answer) => finish(out, answer.status, answer.text.as_slice()),
-            Err(_) => Status::OutOfMemory,
-        },
+        Ok(bytes) => finish_answer(out, file_answer(alloc, bytes.as_slice(), limit)),
         Err(ReadStop::Failed) => finish(out, Status::ReadFault, b"read fault\n"),
-        Err(ReadStop::TooLong) => finish(out, Status::File, b"refused\n"),
+        Err(ReadStop::TooLong) => finish_answer(out, long_answer(alloc)),
         Err(ReadStop::OutOfMemory) => Status::OutOfMemory,
     }
 }
@@ -106,13 +124,17 @@ pub fn run_plain<S: Shelf, K: Sink>(
 
     // Over a shelf that tells its files, the answer is exactly that of the definition on the bytes under FILE.
     ensures exact { (files : Files) (file : List ℕ) (limit : ℕ) (bytes written : List ℕ) (status : Status) →
-        S.files shelf.old ≡ Some files → files file ≡ Some bytes → AskFor words.now file limit → Answers bytes limit status written →
+        S.files shelf.old ≡ Some files → files file ≡ Some bytes → AskFor words.now file limit → Answers (format_in words.now) bytes limit status written →
         ((result ≡ status) × Wrote (sink_call K.Sink out.old out.new) written) ⊎ IsOrFault result Status.ReadFault }
 
     // Where neither the shelf nor the sink failed, the file is answered with a whole text, or memory ran out.
     ensures complete { (file : List ℕ) (limit : ℕ) → AskFor words.now file limit
         → (ShelfFailed (shelf_call S.Shelf shelf.old shelf.new) → ⊥) → (SinkFailed (sink_call K.Sink out.old out.new) → ⊥)
         → IsComplete (call words.now (shelf_call S.Shelf shelf.old shelf.new) (sink_call K.Sink out.old out.new)) result }
+
+    // A file is refused, with the line and the kind of its first fault or with the variable whose width doesn't fit, only
+    // where the definition has it so; `exact` says that it is then.
+    ensures file_only { result ≡ Status.File → IsFileRefused (call words.now (shelf_call S.Shelf shelf.old shelf.new) (sink_call K.Sink out.old out.new)) }
 
     // The causes of the statuses that are no answers.
     ensures words { AreBad words.now → (result ≡ Status.Words) ⊎ ((result ≡ Status.WriteFault) ⊎ (result ≡ Status.OutOfMemory)) }

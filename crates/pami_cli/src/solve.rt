@@ -1,17 +1,17 @@
 //! What a model is answered: its form, the starting state, and the walk from there.
 
-ghost use Rattle.std.specs.Prelude.{◌≡◌, ◌≤◌, IfOk, None};
+ghost use Rattle.std.specs.Prelude.{◌≡◌, ◌≤◌, IfOk};
 ghost use Rattle.pami_model.specs.Contents.{contents};
 ghost use Rattle.pami_theory.specs.Fresh.{IsDualFeasible};
 ghost use Rattle.pami_theory.specs.Start.{starting_basis};
 ghost use Rattle.pami_method.specs.Walk.{greatest_limit};
 ghost use Rattle.pami_state.specs.Columns.{form_by};
 ghost use Rattle.pami_model_form.specs.ModelForm.{model_form};
-ghost use Rattle.pami_form.specs.Widths.{first_wide};
 ghost use Rattle.pami_cli.specs.Solved.{IsStart};
-ghost use Rattle.pami_cli.specs.Answer.{AnswersRun, AnswersModel};
+ghost use Rattle.pami_cli.specs.Answer.{AnswersRun, AnswersForm, AnswersModel};
 
 use crate::answer::{Answer, ended_answer, refused_start};
+use crate::refuse::refused_width;
 use crate::status::Status;
 use pami_form::{Form, form_of};
 use pami_frac::{Fault, OutOfMemory};
@@ -57,7 +57,7 @@ fn walk_answer(
 fn form_answer(alloc: Global, model: &Model, form: &Form, limit: u32) -> Result<Answer, OutOfMemory>
     requires limit { limit ≤ greatest_limit }
     requires form { form_by form.now.columns form.now.bounds form.now.costs ≡ model_form (contents model.now) }
-    ensures { IfOk result (λ a. AnswersModel (contents model.now) limit a.status a.text.items) }
+    ensures { IfOk result (λ a. AnswersForm (contents model.now) limit a.status a.text.items) }
 {
     let bounds = form.bounds.as_slice();
     let state = match start(
@@ -80,16 +80,18 @@ fn form_answer(alloc: Global, model: &Model, form: &Form, limit: u32) -> Result<
     walk_answer(alloc, model, form, state, limit)
 }
 
-/// What a model is answered whose widths fit, with at most `limit` pivots.
+/// What a model is answered, with at most `limit` pivots.
+///
+/// # Errors
+///
+/// `OutOfMemory` alone.
 pub fn model_answer(alloc: Global, model: &Model, limit: u32) -> Result<Answer, OutOfMemory>
     requires limit { limit ≤ greatest_limit }
-    requires fits { first_wide (model_form (contents model.now)).bounds ≡ None }
     ensures { IfOk result (λ a. AnswersModel (contents model.now) limit a.status a.text.items) }
 {
     match form_of(alloc, model) {
         Ok(form) => form_answer(alloc, model, &form, limit),
-        // A form is refused only by a width, and `fits` says that all widths fit.
-        Err(Fault::Named(_)) => unreachable!(),
+        Err(Fault::Named(wide)) => refused_width(alloc, model, wide.variable),
         Err(Fault::OutOfMemory) => Err(OutOfMemory),
     }
 }

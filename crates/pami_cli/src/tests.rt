@@ -1,8 +1,13 @@
 //! Runs over shelves and sinks in memory. Every expected text and status is worked out from the format by hand.
 
 use super::run_plain;
+use crate::solve::model_answer;
+use crate::status::Status;
 use pami_edge::{MemoryShelf, MemorySink, Word};
+use pami_frac::{Bounds, Frac};
+use pami_model::Builder;
 use std::alloc::Global;
+use std::process::Abort;
 use std::test::Fail;
 
 /// A file with a line feed for each bar.
@@ -41,70 +46,197 @@ fn solved(alloc: Global, limit: &str, bytes: &[u8]) -> Result<(u8, Vec<u8>), Fai
     Ok((status.code(), out.bytes().to_vec(alloc)?))
 }
 
-const FIRST: &str = "NAME T|ROWS| N c| L c1| G c2|COLUMNS| x c 1 c1 2| x c2 1|RHS| c1 5|ENDATA|";
-
-/// Where no pivot is allowed.
-#[test]
-fn answers_at_the_start(rt: HostRuntime) -> Result<(), Fail> {
-    let alloc = rt.alloc();
-    let rows = [
-        (
-            FIRST,
-            0,
-            "pami 1|model 2 1 2|phase 2|answer optimal|certificate 1 optimal|objective 0|x x 0 1|r c1 0 0|r c2 0 0|end|basis L BB|",
-        ),
-        (
-            "NAME T|ROWS| N c| L c1| G c2|COLUMNS| x c 1 c1 2| x c2 1|RHS| c1 5 c2 3|ENDATA|",
-            12,
-            "pami 1|model 2 1 2|phase 2|answer limit 0|basis L BB|",
-        ),
-        (
-            "NAME T|ROWS| N c| L c1| G c2|COLUMNS| x c 1 c1 2| x c2 1|RHS| c1 5 c -7|ENDATA|",
-            0,
-            "pami 1|model 2 1 2|phase 2|answer optimal|certificate 1 optimal|objective 7|x x 0 1|r c1 0 0|r c2 0 0|end|basis L BB|",
-        ),
-        (
-            "NAME T|ROWS| N c| L c1| G c2|COLUMNS| x c -1 c1 2| x c2 1|RHS| c1 5|ENDATA|",
-            30,
-            "needs phase one|",
-        ),
-        (
-            "NAME T|ROWS| N c| L c1| G c2|COLUMNS| x c 1 c1 2| x c2 1|RHS| c1 5|",
-            3,
-            "refused|",
-        ),
-        // A negative right-hand side of an L row leaves 0 out; a cost below 0 comes before.
-        (
-            "ROWS| L r|COLUMNS| x r 1|RHS| r -1|ENDATA|",
-            12,
-            "pami 1|model 1 1 1|phase 2|answer limit 0|basis L B|",
-        ),
-        (
-            "ROWS| N c| L r|COLUMNS| x r 1 c -1|RHS| r -1|ENDATA|",
-            30,
-            "needs phase one|",
-        ),
-        // No columns, no rows, long decimals and fractions.
-        (
-            "ROWS| N c|COLUMNS|ENDATA|",
-            0,
-            "pami 1|model 0 0 0|phase 2|answer optimal|certificate 1 optimal|objective 0|end|basis - -|",
-        ),
-        (
-            "ROWS| N c| E e|COLUMNS| a c .25 e 1| b c 1e2|RHS| c 0.5|ENDATA|",
-            0,
-            "pami 1|model 1 2 1|phase 2|answer optimal|certificate 1 optimal|objective -1/2|x a 0 1/4|x b 0 100|r e 0 0|end|basis LL B|",
-        ),
-    ];
+/// Is each of these files answered with its status and its text, with this limit of pivots?
+fn are_answered(
+    rt: &impl Abort,
+    alloc: Global,
+    limit: &str,
+    rows: &[(&str, u8, &str)],
+) -> Result<(), Fail> {
     for (file, status, text) in rows {
-        let (code, written) = solved(alloc, "0", lines(alloc, file)?.as_slice())?;
-        assert_eq!(rt; code, status, "status of {file}");
+        let (code, written) = solved(alloc, limit, lines(alloc, file)?.as_slice())?;
+        assert_eq!(rt; code, *status, "status of {file}");
         assert!(rt;
             written.as_slice() == lines(alloc, text)?.as_slice(),
             "text of {file}"
         );
     }
     Ok(())
+}
+
+const FIRST: &str = "NAME T|ROWS| N c| L c1| G c2|COLUMNS| x c 1 c1 2| x c2 1|RHS| c1 5|ENDATA|";
+
+/// Where no pivot is allowed.
+#[test]
+fn answers_at_the_start(rt: HostRuntime) -> Result<(), Fail> {
+    are_answered(
+        &rt,
+        rt.alloc(),
+        "0",
+        &[
+            (
+                FIRST,
+                0,
+                "pami 1|model 2 1 2|phase 2|answer optimal|certificate 1 optimal|objective 0|x x 0 1|r c1 0 0|r c2 0 0|end|basis L BB|",
+            ),
+            (
+                "NAME T|ROWS| N c| L c1| G c2|COLUMNS| x c 1 c1 2| x c2 1|RHS| c1 5 c2 3|ENDATA|",
+                12,
+                "pami 1|model 2 1 2|phase 2|answer limit 0|basis L BB|",
+            ),
+            (
+                "NAME T|ROWS| N c| L c1| G c2|COLUMNS| x c 1 c1 2| x c2 1|RHS| c1 5 c -7|ENDATA|",
+                0,
+                "pami 1|model 2 1 2|phase 2|answer optimal|certificate 1 optimal|objective 7|x x 0 1|r c1 0 0|r c2 0 0|end|basis L BB|",
+            ),
+            // A negative right-hand side of an L row leaves 0 out.
+            (
+                "ROWS| L r|COLUMNS| x r 1|RHS| r -1|ENDATA|",
+                12,
+                "pami 1|model 1 1 1|phase 2|answer limit 0|basis L B|",
+            ),
+            // No columns, no rows, long decimals and fractions.
+            (
+                "ROWS| N c|COLUMNS|ENDATA|",
+                0,
+                "pami 1|model 0 0 0|phase 2|answer optimal|certificate 1 optimal|objective 0|end|basis - -|",
+            ),
+            (
+                "ROWS| N c| E e|COLUMNS| a c .25 e 1| b c 1e2|RHS| c 0.5|ENDATA|",
+                0,
+                "pami 1|model 1 2 1|phase 2|answer optimal|certificate 1 optimal|objective -1/2|x a 0 1/4|x b 0 100|r e 0 0|end|basis LL B|",
+            ),
+        ],
+    )
+}
+
+/// Columns that don't start at 0: by their bounds, and a boxed one by its cost.
+#[test]
+fn starts_where_the_bounds_say(rt: HostRuntime) -> Result<(), Fail> {
+    are_answered(
+        &rt,
+        rt.alloc(),
+        "",
+        &[
+            // A free column at 0, one at its upper bound, a fixed one, one at its lower bound; a row between two sides.
+            (
+                "ROWS| N c| E e|COLUMNS| z e 1| u c -1 e 1| f c -2 e 1| l c 1|RHS| e 10|RANGES| e -4|BOUNDS| FR z| MI u| UP u 4| FX f 3| LO l -1|ENDATA|",
+                0,
+                "pami 1|model 1 4 3|phase 2|answer optimal|certificate 1 optimal|objective -11|x z 0 0|x u 4 -1|x f 3 -2|x l -1 1|r e 7 0|end|basis ZULL B|",
+            ),
+            // An upper bound below 0 takes the lower one away.
+            (
+                "ROWS| N c| L r|COLUMNS| x c -1 r 1|BOUNDS| UP x -3|ENDATA|",
+                0,
+                "pami 1|model 1 1 1|phase 2|answer optimal|certificate 1 optimal|objective 3|x x -3 -1|r r -3 0|end|basis U B|",
+            ),
+            // A maximum: reduced costs are those of the minimum, the objective is the file's own.
+            (
+                "OBJSENSE MAX|ROWS| N c| L r|COLUMNS| x c 2 r 1|RHS| r 3 c -1|BOUNDS| UP x 1|ENDATA|",
+                0,
+                "pami 1|model 1 1 1|phase 2|answer optimal|certificate 1 optimal|objective 3|x x 1 -2|r r 1 0|end|basis U B|",
+            ),
+            (
+                "OBJSENSE| MAXIMIZE|ROWS| N c| L r|COLUMNS| x c 2 r 1|RHS| r 0.5|BOUNDS| UP x 1|ENDATA|",
+                0,
+                "pami 1|model 1 1 1|phase 2|major 1 full 0|pivot 1 0 r:r U x:x 2|answer optimal|certificate 1 optimal|objective 1|x x 1/2 0|r r 1/2 -2|end|basis B U|",
+            ),
+            // The objective's sum doesn't fit, but every value does.
+            (
+                "ROWS| N c|COLUMNS| x c 1e20|BOUNDS| LO x 1e19|ENDATA|",
+                0,
+                "pami 1|model 0 1 0|phase 2|answer optimal|certificate 1 optimal|objective wide|x x 10000000000000000000 100000000000000000000|end|basis L -|",
+            ),
+            // The starting values don't fit: a product, a sum.
+            (
+                "ROWS| N c| L r|COLUMNS| x c -1 r 1e20|BOUNDS| LO x 1e19|ENDATA|",
+                13,
+                "pami 1|model 1 1 1|answer overflow start mul 100000000000000000000 10000000000000000000|",
+            ),
+            (
+                "ROWS| L r|COLUMNS| x r 1e19| y r 1e19|BOUNDS| LO x 1e19| LO y 1e19|ENDATA|",
+                13,
+                "pami 1|model 1 2 2|answer overflow start add 100000000000000000000000000000000000000 100000000000000000000000000000000000000|",
+            ),
+            // Not dual feasible: a cost below 0 with no upper bound, one above 0 with no lower one, a free column of cost.
+            (
+                "NAME T|ROWS| N c| L c1| G c2|COLUMNS| x c -1 c1 2| x c2 1|RHS| c1 5|ENDATA|",
+                30,
+                "needs phase one|",
+            ),
+            (
+                "NAME T|ROWS| N COST| E e1| E e2| L l1|COLUMNS| a COST 1 e1 1| a e2 1 l1 1| b l1 1|RHS| e1 10 e2 10| l1 7|RANGES| RNG e1 -4 e2 0|BOUNDS| UP BND a -3| MI b|ENDATA|",
+                30,
+                "needs phase one|",
+            ),
+            (
+                "ROWS| N c|COLUMNS| x c 1|BOUNDS| FR x|ENDATA|",
+                30,
+                "needs phase one|",
+            ),
+        ],
+    )
+}
+
+const FLIPPED: &str =
+    "NAME T|ROWS| N c| G c1|COLUMNS| x c 1 c1 1| y c 2 c1 1|RHS| c1 3|BOUNDS| UP B x 1|ENDATA|";
+
+/// Boxed columns that the ratio walk passes.
+#[test]
+fn flips_what_the_walk_passes(rt: HostRuntime) -> Result<(), Fail> {
+    let alloc = rt.alloc();
+    are_answered(
+        &rt,
+        alloc,
+        "",
+        &[
+            (
+                FLIPPED,
+                0,
+                "pami 1|model 1 2 2|phase 2|major 1 full 0|flip x:x U|pivot 1 0 r:c1 L x:y 2|answer optimal|certificate 1 optimal|objective 5|x x 1 -1|x y 2 0|r c1 3 2|end|basis UB L|",
+            ),
+            // Passed by rising ratio, down to the lower bound too.
+            (
+                "ROWS| N c| G r|COLUMNS| x c -2 r -1| y c 1 r 1| z c 3 r 1|RHS| r 4|BOUNDS| UP x 1| UP y 2|ENDATA|",
+                0,
+                "pami 1|model 1 3 3|phase 2|major 1 full 0|flip x:y U|flip x:x L|pivot 1 0 r:r L x:z 3|answer optimal|certificate 1 optimal|objective 8|x x 0 1|x y 2 -2|x z 2 0|r r 4 3|end|basis LUB L|",
+            ),
+            // The flip takes another row past its bound, so the column comes back into the basis.
+            (
+                "ROWS| N c| G g| L l|COLUMNS| x c 1 g 1| x l 1| y c 2 g 1|RHS| g 3 l 0.5|BOUNDS| UP x 1|ENDATA|",
+                0,
+                "pami 1|model 2 2 3|phase 2|major 1 full 0|flip x:x U|pivot 1 0 r:g L x:y 2|major 2 full 1|pivot 2 1 r:l U x:x 1|answer optimal|certificate 1 optimal|objective 11/2|x x 1/2 0|x y 5/2 0|r g 3 2|r l 1/2 -1|end|basis BB LU|",
+            ),
+            // All that may enter is passed: no point meets the row.
+            (
+                "ROWS| N c| G c1|COLUMNS| x c 1 c1 1| y c 1 c1 1|RHS| c1 5|BOUNDS| UP x 1| UP y 2|ENDATA|",
+                10,
+                "pami 1|model 1 2 2|phase 2|major 1 full 0|none 0 r:c1|answer infeasible|certificate 1 infeasible|r c1 1|end|",
+            ),
+            // Behind a flip the step doesn't fit; by how much a flip would move the row doesn't fit.
+            (
+                "ROWS| N c| G r|COLUMNS| x r 1| y c 1 r 1e-38|RHS| r 3|BOUNDS| UP x 1|ENDATA|",
+                13,
+                "pami 1|model 1 2 2|phase 2|rollback 1 step-1 div -2 -1/100000000000000000000000000000000000000|answer overflow step-1 div -2 -1/100000000000000000000000000000000000000|",
+            ),
+            (
+                "ROWS| N c| G r|COLUMNS| x r 1e38|RHS| r 5|BOUNDS| UP x 10|ENDATA|",
+                13,
+                "pami 1|model 1 1 1|phase 2|rollback 1 ratio-1 mul 100000000000000000000000000000000000000 10|answer overflow ratio-1 mul 100000000000000000000000000000000000000 10|",
+            ),
+        ],
+    )?;
+    // The limit counts pivots, and no flip comes before it.
+    are_answered(
+        &rt,
+        alloc,
+        "0",
+        &[(
+            FLIPPED,
+            12,
+            "pami 1|model 1 2 2|phase 2|answer limit 0|basis LL B|",
+        )],
+    )
 }
 
 const TWO_ROWS: &str =
@@ -211,101 +343,135 @@ fn accepts_what_the_layout_leaves_free(rt: HostRuntime) -> Result<(), Fail> {
     Ok(())
 }
 
+/// The word of each kind of fault that an MPS file may have, and the line of its first fault.
 #[test]
-fn refuses_each_broken_rule(rt: HostRuntime) -> Result<(), Fail> {
-    let alloc = rt.alloc();
-    let refused = lines(alloc, "refused|")?;
-    let rows = [
-        // Bytes and sections.
-        "* a \u{7}|ROWS| N c|COLUMNS|ENDATA|",
-        "ROWS| N c\u{7f}|COLUMNS|ENDATA|",
-        "ROWS| N c|COLUMNS|ENDATA\r",
+fn refuses_at_the_first_fault(rt: HostRuntime) -> Result<(), Fail> {
+    are_answered(
+        &rt,
+        rt.alloc(),
         "",
-        "ROWS| N c|COLUMNS|",
-        "ROWS| N c|COLUMNS|RHS|",
-        "rows| N c|COLUMNS|ENDATA|",
-        "SOMETHING|ROWS| N c|COLUMNS|ENDATA|",
-        "ROWS| N c|ROWS|COLUMNS|ENDATA|",
-        "NAME|NAME|ROWS| N c|COLUMNS|ENDATA|",
-        "ROWS| N c|NAME|COLUMNS|ENDATA|",
-        "COLUMNS|ROWS| N c|ENDATA|",
-        "ROWS| N c|RHS|COLUMNS|ENDATA|",
-        "ROWS| N c|ENDATA|",
-        "NAME|COLUMNS|ENDATA|",
-        "ENDATA|",
-        " N c|ROWS|COLUMNS|ENDATA|",
-        "NAME| N c|ROWS|COLUMNS|ENDATA|",
-        "ROWS x| N c|COLUMNS|ENDATA|",
-        "ROWS| N c|COLUMNS|ENDATA x|",
-        "OBJSENSE MAX|ROWS| N c|COLUMNS|ENDATA|",
-        "ROWS| N c|COLUMNS|RANGES|ENDATA|",
-        "ROWS| N c|COLUMNS|BOUNDS|ENDATA|",
-        // ROWS.
-        "ROWS| N|COLUMNS|ENDATA|",
-        "ROWS| N c d|COLUMNS|ENDATA|",
-        "ROWS| X c|COLUMNS|ENDATA|",
-        "ROWS| n c|COLUMNS|ENDATA|",
-        "ROWS| L c| L c|COLUMNS|ENDATA|",
-        "ROWS| N c| N c|COLUMNS|ENDATA|",
-        "ROWS| N c| E c|COLUMNS|ENDATA|",
-        "ROWS| E c| N c|COLUMNS|ENDATA|",
-        // COLUMNS.
-        "ROWS| N c|COLUMNS| x c|ENDATA|",
-        "ROWS| N c| L r|COLUMNS| x c 1 r|ENDATA|",
-        "ROWS| N c| L r|COLUMNS| x c 1 r 1 r|ENDATA|",
-        "ROWS| N c|COLUMNS| x d 1|ENDATA|",
-        "ROWS| N c|COLUMNS| x c one|ENDATA|",
-        "ROWS| N c|COLUMNS| x c 1e39|ENDATA|",
-        "ROWS| N c| N d|COLUMNS| x d one|ENDATA|",
-        "ROWS| N c| L r|COLUMNS| x r 1 r 2|ENDATA|",
-        "ROWS| N c| L r|COLUMNS| x r 1| x r 2|ENDATA|",
-        "ROWS| N c| L r|COLUMNS| x r 0| x r 0|ENDATA|",
-        "ROWS| N c|COLUMNS| x c 1 c 1|ENDATA|",
-        "ROWS| N c| L r|COLUMNS| x r 1| y r 1| x c 1|ENDATA|",
-        "ROWS| N c|COLUMNS| M 'MARKER' 'INTORG'|ENDATA|",
-        // RHS.
-        "ROWS| N c|COLUMNS|RHS| c|ENDATA|",
-        "ROWS| N c| L r|COLUMNS|RHS| set c 1 r 1 r|ENDATA|",
-        "ROWS| N c|COLUMNS|RHS| d 1|ENDATA|",
-        "ROWS| N c| L r|COLUMNS|RHS| r 1| r 1|ENDATA|",
-        "ROWS| N c| L r|COLUMNS|RHS| r 1 r 1|ENDATA|",
-        "ROWS| N c|COLUMNS|RHS| c 1 c 1|ENDATA|",
-        "ROWS| N c| L r|COLUMNS|RHS| r inf|ENDATA|",
-        "ROWS| N c| L r|COLUMNS|RHS| r 1e20|ENDATA|",
-        "ROWS| N c| G r|COLUMNS|RHS| r -100000000000000000000|ENDATA|",
-        "ROWS| N c| N d|COLUMNS|RHS| d 1e20|ENDATA|",
-    ];
-    for file in rows {
-        let (code, written) = solved(alloc, "0", lines(alloc, file)?.as_slice())?;
-        assert_eq!(rt; code, 3, "status of {file}");
-        assert!(rt; written.as_slice() == refused.as_slice(), "text of {file}");
-    }
+        &[
+            ("* a \u{7}|ROWS| N c|COLUMNS|ENDATA|", 3, "refused 1 byte|"),
+            ("ROWS| N c|COLUMNS|ENDATA\r", 3, "refused 4 byte|"),
+            ("rows| N c|COLUMNS|ENDATA|", 3, "refused 1 section|"),
+            ("ROWS| N c|RHS|COLUMNS|ENDATA|", 3, "refused 3 order|"),
+            (" N c|ROWS|COLUMNS|ENDATA|", 3, "refused 1 order|"),
+            ("ROWS| N|COLUMNS|ENDATA|", 3, "refused 2 words|"),
+            ("ROWS| X c|COLUMNS|ENDATA|", 3, "refused 2 row-type|"),
+            (
+                "ROWS| N c|COLUMNS| x c 1|BOUNDS| XX B x 1|ENDATA|",
+                3,
+                "refused 6 bound-type|",
+            ),
+            ("OBJSENSE|\tLEAST|ROWS|", 3, "refused 2 sense|"),
+            (
+                "ROWS| N c|COLUMNS| M 'MARKER' 'INTORG'|ENDATA|",
+                3,
+                "refused 4 integer|",
+            ),
+            (
+                "ROWS| L c| G c|COLUMNS|ENDATA|",
+                3,
+                "refused 3 duplicate-row|",
+            ),
+            (
+                "ROWS| L r|COLUMNS| x r 1| y r 1| x r 1|ENDATA|",
+                3,
+                "refused 6 duplicate-column|",
+            ),
+            (
+                "ROWS| L r|COLUMNS| x r 0| x r 2|ENDATA|",
+                3,
+                "refused 5 duplicate-entry|",
+            ),
+            (
+                "ROWS| N c|COLUMNS| x d 1|ENDATA|",
+                3,
+                "refused 4 unknown-row|",
+            ),
+            (
+                "ROWS| N c|COLUMNS| x c 1|BOUNDS| UP y 1|ENDATA|",
+                3,
+                "refused 6 unknown-column|",
+            ),
+            ("ROWS| N c|COLUMNS| x c one|ENDATA|", 3, "refused 4 number|"),
+            ("ROWS| N c|COLUMNS| x c 1e39|ENDATA|", 3, "refused 4 wide|"),
+            (
+                "ROWS| N c| L r|COLUMNS|RHS| r -inf|ENDATA|",
+                3,
+                "refused 6 infinite|",
+            ),
+            (
+                "ROWS| N c|COLUMNS|RANGES| c 1|ENDATA|",
+                3,
+                "refused 5 range-on-n|",
+            ),
+            (
+                "ROWS| N c|COLUMNS| x c 1|BOUNDS| LO x 2| UP x 1|ENDATA|",
+                3,
+                "refused 8 crossed|",
+            ),
+            ("ROWS| N c|COLUMNS|", 3, "refused 4 end-missing|"),
+            ("", 3, "refused 1 end-missing|"),
+            // The bounds of x fit, and their distance doesn't; a fault of the text hides that.
+            (
+                "NAME T|ROWS| N c| L c1| G c2|COLUMNS| x c 1 c1 2| x c2 1|RHS| c1 5|BOUNDS| LO B x 1e-38| UP B x 1e19|ENDATA|",
+                3,
+                "refused 0 width x:x|",
+            ),
+            (
+                "ROWS| N c|COLUMNS| x c 1|BOUNDS| LO x 1e-38| UP x 1e19|",
+                3,
+                "refused 8 end-missing|",
+            ),
+        ],
+    )
+}
+
+/// Files have no such row, but models may.
+#[test]
+fn a_row_may_be_too_wide(rt: HostRuntime) -> Result<(), Fail> {
+    let alloc = rt.alloc();
+    let low = Frac::new(1, 100_000_000_000_000_000_000_000_000_000_000_000_000)
+        .ok()
+        .ok_or("a fraction")?;
+    let mut builder = Builder::new(alloc).ok().ok_or("a builder")?;
+    let bounds = Bounds {
+        low: Some(low),
+        high: Some(Frac::whole(1_000_000_000_000_000_000)),
+    };
+    builder.add_row(b"r", bounds).ok().ok_or("a row")?;
+    let model = builder.finish().ok().ok_or("a model")?;
+    let answer = model_answer(alloc, &model, 0)?;
+    assert_eq!(rt; answer.status, Status::File);
+    assert_eq!(rt; answer.text.as_slice(), b"refused 0 width r:r\n".as_slice());
     Ok(())
 }
 
 #[test]
 fn takes_names_rows_and_columns_up_to_the_limits(rt: HostRuntime) -> Result<(), Fail> {
     let alloc = rt.alloc();
-    // The length of the row's name, the counts of rows, of columns and of bytes behind ENDATA, and the status.
+    // The length of the row's name, the counts of further rows, of columns and of bytes behind ENDATA, and the refusal. A
+    // file of one byte more than the limit isn't looked into.
     let rows = [
-        (255usize, 0u32, 0u32, 0usize, 0u8),
-        (256, 0, 0, 0, 3),
-        (1, 255, 0, 0, 0),
-        (1, 256, 0, 0, 3),
-        (1, 0, 4096, 0, 0),
-        (1, 0, 4097, 0, 3),
-        (1, 0, 0, 16_777_186, 0),
-        (1, 0, 0, 16_777_187, 3),
+        (255usize, 0u32, 0u32, 0usize, ""),
+        (256, 0, 0, 0, "refused 4 name-long|"),
+        (1, 255, 0, 0, ""),
+        (1, 256, 0, 0, "refused 260 too-many-rows|"),
+        (1, 0, 4096, 0, ""),
+        (1, 0, 4097, 0, "refused 4102 too-many-columns|"),
+        (1, 0, 0, 16_777_179, ""),
+        (256, 0, 0, 16_776_925, "refused 0 too-long|"),
     ];
-    for (name, more_rows, columns, behind, status) in rows {
-        let mut file = Vec::from_slice(alloc, b"ROWS\n L ")?;
+    for (name, more_rows, columns, behind, refused) in rows {
+        let mut file = Vec::from_slice(alloc, b"NAME T\nROWS\n N c\n L ")?;
         for _ in 0..name {
             file.push(b'r')?;
         }
         for row in 0..more_rows {
             file.extend_from_slice(format!(in alloc; "\n L r{row}")?.as_bytes())?;
         }
-        file.extend_from_slice(b"\n N c\nCOLUMNS\n")?;
+        file.extend_from_slice(b"\nCOLUMNS\n")?;
         for column in 0..columns {
             file.extend_from_slice(format!(in alloc; " x{column} c 1\n")?.as_bytes())?;
         }
@@ -313,8 +479,13 @@ fn takes_names_rows_and_columns_up_to_the_limits(rt: HostRuntime) -> Result<(), 
         for _ in 0..behind {
             file.push(b'.')?;
         }
-        let (code, _written) = solved(alloc, "0", file.as_slice())?;
-        assert_eq!(rt; code, status, "{name} {more_rows} {columns} {behind}");
+        let (code, written) = solved(alloc, "0", file.as_slice())?;
+        if refused.is_empty() {
+            assert_eq!(rt; code, 0, "{name} {more_rows} {columns} {behind}");
+        } else {
+            assert_eq!(rt; code, 3, "{name} {more_rows} {columns} {behind}");
+            assert!(rt; written.as_slice() == lines(alloc, refused)?.as_slice());
+        }
     }
     Ok(())
 }

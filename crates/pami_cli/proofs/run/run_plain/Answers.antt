@@ -1,4 +1,6 @@
-use Rattle.pami_cli.proofs.Runs.{ends_exactly, ends_complete, ends_bad_words}
+use Rattle.std.proofs.Common.{subst}
+use Rattle.pami_cli.specs.Run.{Ends}
+use Rattle.pami_cli.proofs.Runs.{ends_exactly, ends_complete, ends_bad_words, ends_refused}
 use Rattle.pami_cli.proofs.run.run_plain.Goals as goal
 
 pub returns-clause-exact : goal.returns-clause-exact
@@ -9,3 +11,6 @@ returns-clause-complete g c = λ file limit asks read wrote. ends_complete _ fil
 
 pub returns-clause-words : goal.returns-clause-words
 returns-clause-words g c = λ bad. ends_bad_words _ bad c.run_words.result c.run_words.ensures.ends
+
+pub returns-clause-file_only : goal.returns-clause-file_only
+returns-clause-file_only g c = λ e. ends_refused _ (subst (Ends _) e c.run_words.ensures.ends)

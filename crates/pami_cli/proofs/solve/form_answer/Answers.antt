@@ -1,5 +1,6 @@
 use Rattle.pami_model.specs.Contents.{contents}
-use Rattle.pami_cli.proofs.Started.{lent_form, lent_kept, refused_model, start_stands, feasible_model, phase_one_model}
+use Rattle.pami_major.proofs.Starts.{lent_form, lent_kept}
+use Rattle.pami_cli.proofs.Started.{refused_model, start_stands, feasible_model, phase_one_model}
 use Rattle.pami_cli.proofs.solve.form_answer.Goals as goal
 
 pub returns-in-Err-Named : goal.returns-in-Err-Named
