@@ -1,7 +1,6 @@
 -- Numbers and bounds in model files.
 use Rattle.std.specs.Prelude.{List, ℕ, Option, None, Some, Result, Ok, Err}
 use Rattle.pami_frac.specs.BoundText.{bound_outcome}
-pub use Rattle.pami_frac.specs.BoundText.{infinity, is_infinite}
 use Rattle.pami_frac.specs.Decimal.{decimal_outcome}
 use Rattle.pami_frac.specs.declared.bound.BoundValue.{BoundValue}
 use Rattle.pami_frac.specs.declared.bound.BoundValue.TheVariants as bounds

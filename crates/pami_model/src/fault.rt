@@ -55,13 +55,13 @@ pub enum FileKind {
     DuplicateRow,
     /// A column that begins again.
     DuplicateColumn,
-    /// A second value of one row, in one column or among the right-hand sides.
+    /// A second value of one row, in one column, among the right-hand sides or among the ranges.
     DuplicateEntry,
     /// A row that wasn't declared.
     UnknownRow,
     /// A column that wasn't declared.
     UnknownColumn,
-    /// A word that should be a decimal and isn't.
+    /// A word that should be a number and isn't.
     Number,
     /// A decimal past the limits, or a sum or a computed range that doesn't fit.
     Wide,

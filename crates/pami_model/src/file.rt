@@ -1,4 +1,4 @@
-//! What the readers of model files share: their numbers, infinite values, a builder's refusal as a fault of the file,
+//! What the readers of model files share: their numbers and bounds, a builder's refusal as a fault of the file,
 //! and that a file has at most one first fault.
 
 ghost use Rattle.std.specs.Prelude.{◌≡◌, ℕ, Option, IfOk};
@@ -6,11 +6,10 @@ ghost use Rattle.pami_frac.specs.Answers.{Follows};
 ghost use Rattle.pami_frac.specs.Decimal.{decimal_value};
 ghost use Rattle.pami_model.specs.declared.fault.FileKind.{FileKind};
 ghost use Rattle.pami_model.specs.FirstFault.{HasOneFault};
-ghost use Rattle.pami_model.specs.Number.{is_infinite as the_infinite, judge_limit, judge_number, limit_value};
+ghost use Rattle.pami_model.specs.Number.{judge_limit, judge_number, limit_value};
 ghost use Rattle.pami_model.specs.Refusal.{widened};
 
 use crate::fault::{BuildFault, FileKind, What};
-use crate::limit::INFINITY;
 use pami_frac::{BoundValue, DecimalFault, Fault, Frac, read_bound, read_decimal};
 
 /// The number that a word spells. `Number` where the word is no decimal, `Wide` where the decimal doesn't fit.
@@ -36,14 +35,6 @@ pub fn read_limit(word: &[u8]) -> Result<BoundValue, Fault<FileKind>>
         Err(DecimalFault::NotANumber) => Err(Fault::Named(FileKind::Number)),
         Err(DecimalFault::TooWide) => Err(Fault::Named(FileKind::Wide)),
     }
-}
-
-/// Whether the value is 10^20 or more in absolute value.
-pub fn is_infinite(value: &Frac) -> bool
-    ensures { result ≡ the_infinite value.now }
-{
-    let whole = value.numerator().unsigned_abs() / value.denominator().unsigned_abs();
-    whole >= INFINITY
 }
 
 /// A builder's refusal as what is wrong with a file.

@@ -17,7 +17,7 @@ mod tests;
 
 pub use builder::Builder;
 pub use fault::{BuildFault, Crossed, FileFault, FileKind, What};
-pub use file::{file_fault, is_infinite, one_first_fault, read_limit, read_number};
+pub use file::{file_fault, one_first_fault, read_limit, read_number};
 pub use limit::{BYTE_LIMIT, NAME_LIMIT};
 pub use list::{Column, ColumnList, EntryList, Name, Row, RowList};
 pub use model::{Model, Sense};

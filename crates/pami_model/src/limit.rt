@@ -14,6 +14,3 @@ pub const NAME_LIMIT: usize = 255;
 
 /// The most bytes that the file of a model may have.
 pub const BYTE_LIMIT: usize = 16_777_216;
-
-/// The least absolute value that counts as infinite.
-pub const INFINITY: u128 = 100_000_000_000_000_000_000;

@@ -1,10 +1,10 @@
 //! A builder's answers, each compared: names, entries, settings and the finished model; and what readers share.
 
 use crate::{
-    BuildFault, Builder, Crossed, FileKind, Model, Sense, What, file_fault, is_infinite,
-    one_first_fault, read_number,
+    BuildFault, Builder, Crossed, FileKind, Model, Sense, What, file_fault, one_first_fault,
+    read_limit, read_number,
 };
-use pami_frac::{Bounds, Entry, Fault, Frac};
+use pami_frac::{BoundValue, Bounds, Entry, Fault, Frac};
 use std::test::Fail;
 
 /// A whole number, for those that the tests use.
@@ -251,13 +251,15 @@ fn readers_share(rt: HostRuntime) -> Result<(), Fail> {
     for (word, wanted) in numbers {
         assert_eq!(rt; told(read_number(word)), wanted);
     }
-    let sizes = [
-        (100_000_000_000_000_000_000, true),
-        (-100_000_000_000_000_000_000, true),
-        (99_999_999_999_999_999_999, false),
+    let limits = [
+        (b"-12".as_slice(), Ok(BoundValue::Finite(whole(-12)))),
+        (b"-1e20".as_slice(), Ok(BoundValue::Minus)),
+        (b"Inf".as_slice(), Ok(BoundValue::Plus)),
+        (b"none".as_slice(), Err(Some(FileKind::Number))),
+        (b"1e-40".as_slice(), Err(Some(FileKind::Wide))),
     ];
-    for (number, wanted) in sizes {
-        assert_eq!(rt; is_infinite(&whole(number)), wanted);
+    for (word, wanted) in limits {
+        assert_eq!(rt; told(read_limit(word)), wanted);
     }
     let full = BuildFault::TooMany {
         what: What::Entries,
