@@ -1,0 +1,4 @@
+pub mod Lexeme
+pub mod Scanning
+pub mod Told
+pub mod Classes
