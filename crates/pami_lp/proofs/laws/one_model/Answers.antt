@@ -1,0 +1,5 @@
+use Rattle.pami_lp.proofs.Joins as joins
+use Rattle.pami_lp.proofs.laws.one_model.Goals as goal
+
+pub returns : goal.returns
+returns c = joins.one_model

@@ -1,0 +1,13 @@
+pub mod Values
+pub mod Rules
+pub mod Placed
+pub mod Sums
+pub mod Known
+pub mod Grammar
+pub mod Meaning
+pub mod Sections
+pub mod Moves
+pub mod Acts
+pub mod Run
+pub mod Outcome
+pub mod Lp
