@@ -1,5 +1,5 @@
 -- An answer that is the outcome of a text, as a model and as a first fault.
-use Rattle.std.proofs.Common.{◌≡◌, ℕ, List, Result, Ok, Err, IfOk, sym, ap, ◌∙◌}
+use Rattle.std.proofs.Common.{ℕ, List, Result, Ok, Err, IfOk, sym, ◌∙◌}
 use Rattle.pami_frac.specs.Answers.{FollowsBy}
 use Rattle.pami_frac.specs.declared.fault.Fault.{Fault}
 use Rattle.pami_frac.specs.declared.fault.Fault.TheVariants as faults

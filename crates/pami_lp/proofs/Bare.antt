@@ -1,5 +1,5 @@
 -- What a text gives without lines: its tokens run as items.
-use Rattle.std.proofs.Common.{◌≡◌, ℕ, Bool, true, false, cond, List, [], ◌∷◌, Option, None, Some, Result, Ok, Err, refl, sym, ap, ◌∙◌}
+use Rattle.std.proofs.Common.{◌≡◌, ℕ, Bool, true, false, cond, List, [], ◌∷◌, Result, Ok, Err, refl, ap, ◌∙◌}
 use Rattle.pami_model.specs.declared.fault.FileFault.{FileFault}
 use Rattle.pami_model.specs.declared.fault.FileKind.{FileKind}
 use Rattle.pami_model.specs.Draft.{Draft}

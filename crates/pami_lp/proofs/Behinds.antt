@@ -1,9 +1,8 @@
 -- What stands behind a file of the grammar: the file in front of nothing, and then that.
-use Rattle.std.proofs.Common.{◌≡◌, ℕ, Bool, true, false, List, [], ◌∷◌, ◌++◌, Option, None, Some, is_some, refl, sym, ap, ◌∙◌}
-use Rattle.pami_lp_text.specs.declared.kind.Relation.{Relation}
+use Rattle.std.proofs.Common.{◌≡◌, ℕ, List, [], ◌∷◌, ◌++◌, Option, None, Some, refl, sym, ap, ◌∙◌}
 use Rattle.pami_lp_text.specs.declared.kind.Class.{Class}
 use Rattle.pami_lp_text.specs.declared.kind.Class.TheVariants as classes
-use Rattle.pami_lp.specs.Grammar.{Item, item, mark, head, Turn, turn, signs, number_before, Term, term, Further, further, Terms, terms, Size, Number, Infinity, size, Value, value, label, Way, way, Side, Right, Left, Both, side, Row, row, rows, Part, Named, Alone, part, Later, later, Goal, Nothing, Parts, goal, rows_word, Bound, Set, From, Between, Freed, bound, bounds, section, ending, File, file, goes_on, IsClosed, AreClosed, IsClosedFile}
+use Rattle.pami_lp.specs.Grammar.{Item, item, head, Turn, signs, number_before, Term, term, Further, further, Terms, terms, Size, Number, Infinity, size, Value, value, label, Side, Right, Left, Both, side, Row, rows, Part, Named, Alone, part, Later, later, Goal, Nothing, Parts, goal, rows_word, Bound, Set, From, Between, Freed, bound, bounds, section, ending, File, file, goes_on, IsClosed, AreClosed, IsClosedFile}
 
 module _ (m : List Item) where
   on : (c : Item) {cs ds : List Item} → cs ≡ ds → c ∷ cs ≡ c ∷ ds

@@ -1,8 +1,5 @@
 -- Which tokens end a file, whatever follows.
-use Rattle.std.proofs.Common.{◌≡◌, ℕ, Bool, true, false, true≢false, cond, nat_lt, length, List, [], ◌∷◌, ◌++◌, map, Option, None, Some, Result, Ok, Err, refl, sym, ap, subst, ◌∙◌}
-use Rattle.pami_model.specs.declared.fault.FileKind.{FileKind}
-use Rattle.pami_model.specs.declared.fault.FileFault.{FileFault}
-use Rattle.pami_model.specs.Contents.{Contents}
+use Rattle.std.proofs.Common.{◌≡◌, Bool, true, false, cond, Option, None, Some, refl}
 use Rattle.pami_lp_text.specs.declared.kind.Relation.{Relation}
 use Rattle.pami_lp_text.specs.declared.kind.Class.{Class}
 use Rattle.pami_lp_text.specs.declared.kind.Class.TheVariants as classes
@@ -10,12 +7,7 @@ use Rattle.pami_lp.specs.declared.kind.Place.{Place}
 use Rattle.pami_lp.specs.declared.kind.Place.TheVariants as places
 use Rattle.pami_lp.specs.declared.kind.Move.{Move}
 use Rattle.pami_lp.specs.Moves.{move_of, goes_on, agrees, row_name, row_left, bound_left, is_name_class, is_colon_class}
-use Rattle.pami_model.specs.declared.fault.FileKind.TheVariants as kinds
-use Rattle.pami_edge.specs.Lines.{lines_of}
-use Rattle.pami_lp_text.specs.Lexeme.{text_words}
-use Rattle.pami_lp_text.specs.Classes.{Symbol, symbols}
 use Rattle.pami_lp.specs.Outcome.{is_end}
-use Rattle.pami_lp.proofs.Shape.{File, file, section, AreClosed, head, walk, walk_by}
 
 abbrev pub ends_move : Option Move → Bool
 ends_move None = false

@@ -1,28 +1,24 @@
 -- The bounds of the grammar, run over their items, give what they give; and so does a whole file.
-use Rattle.std.proofs.Common.{◌≡◌, ℕ, Bool, true, false, true≢false, cond, not, List, [], ◌∷◌, Option, None, Some, Result, Ok, Err, refl, sym, ap, ◌∙◌, length, nat_lt}
-use Rattle.pami_algebra.specs.Fraction.{Fraction}
+use Rattle.std.proofs.Common.{◌≡◌, ℕ, Bool, true, false, true≢false, cond, List, [], ◌∷◌, Option, None, Some, Result, Ok, refl, sym, ◌∙◌}
 use Rattle.pami_frac.specs.declared.list.Bounds.{Bounds}
 use Rattle.pami_frac.specs.Answers.{then as chain}
 use Rattle.pami_model.specs.declared.fault.FileKind.{FileKind}
-use Rattle.pami_model.specs.declared.fault.FileKind.TheVariants as kinds
-use Rattle.pami_model.specs.Rules.{name_limit}
 use Rattle.pami_model.specs.Draft.{Draft, empty_draft}
 use Rattle.pami_lp_text.specs.declared.kind.Relation.{Relation}
 use Rattle.pami_lp_text.specs.declared.kind.Relation.TheVariants as relations
 use Rattle.pami_lp_text.specs.declared.kind.Class.{Class}
 use Rattle.pami_lp_text.specs.declared.kind.Class.TheVariants as classes
-use Rattle.pami_lp.specs.declared.kind.Place.{Place}
 use Rattle.pami_lp.specs.declared.kind.Place.TheVariants as places
 use Rattle.pami_lp.specs.declared.kind.Role.TheVariants as roles
 use Rattle.pami_lp.specs.declared.kind.Move.{Move}
-use Rattle.pami_lp.specs.Moves.{is_name_class, is_colon_class, to}
-use Rattle.pami_lp.specs.Values.{coefficient_of, number_of, read_side, signed, turned, unbounded}
-use Rattle.pami_lp.specs.Rules.{Bounded, add_constant, add_cost, add_term, bounded, end_row, name_by, set_bound, set_free, stand}
-use Rattle.pami_lp.specs.Acts.{Seen, set_side}
+use Rattle.pami_lp.specs.Moves.{to}
+use Rattle.pami_lp.specs.Values.{read_side, turned, unbounded}
+use Rattle.pami_lp.specs.Rules.{Bounded, bounded, set_bound, set_free, stand}
+use Rattle.pami_lp.specs.Acts.{set_side}
 use Rattle.pami_lp.specs.Run.{done, start}
-use Rattle.pami_lp.specs.Grammar.{Item, item, mark, head, Turn, Plus, Minus, turn, signs, number_before, Term, term, Further, further, Terms, terms, Size, Number, Infinity, size, Value, value, label, Way, Below, Above, way, Side, Right, Left, Both, side, Row, row, rows, Part, Named, Alone, part, Later, later, Goal, Nothing, Parts, goal, rows_word, Bound, Set, From, Between, Freed, bound, bounds, section, ending, File, file, agrees, goes_on, IsClosed, AreClosed, IsClosedFile}
-use Rattle.pami_lp.specs.Meaning.{Opened, opened, is_minus, negated, number_in, text_of, right_side, left_side, take_term, take_further, take_terms, close_row, take_side, take_rows, take_part, take_later, take_goal, take_label, take_bound_of, take_bound, take_bounds, take_section, draft_of}
-use Rattle.pami_lp.proofs.Items.{go, runs, one, two, three, three_by, chain_then, chain_same, Kept, state, onward, resting, bounding, with_draft, with_opened, with_sides, Stays, signs_run}
+use Rattle.pami_lp.specs.Grammar.{Item, item, mark, head, Turn, Plus, Minus, signs, Size, Number, Infinity, size, Value, value, Way, Below, Above, way, rows, Bound, Set, From, Between, Freed, bound, bounds, ending, File, file, agrees, IsClosedFile}
+use Rattle.pami_lp.specs.Meaning.{negated, text_of, right_side, left_side, take_rows, take_goal, take_label, take_bound_of, take_bound, take_bounds, take_section, draft_of}
+use Rattle.pami_lp.proofs.Items.{go, runs, one, three_by, chain_then, chain_same, state, onward, resting, bounding, with_sides, Stays, signs_run}
 use Rattle.pami_lp.proofs.RowRuns.{rows_run}
 use Rattle.pami_lp.proofs.GoalRuns.{objective}
 

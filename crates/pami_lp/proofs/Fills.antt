@@ -1,10 +1,10 @@
 -- Tokens whose classes are the shape of a file are a file of the grammar: the shape, filled with their texts.
-use Rattle.std.proofs.Common.{◌≡◌, ℕ, Bool, true, false, true≢false, List, [], ◌∷◌, ◌++◌, map, Option, None, Some, refl, sym, ap, subst, ◌∙◌}
+use Rattle.std.proofs.Common.{◌≡◌, ℕ, Bool, true, false, true≢false, List, [], ◌∷◌, Option, None, Some, refl, sym, ap, subst, ◌∙◌}
 use Rattle.pami_lp_text.specs.declared.kind.Relation.{Relation}
 use Rattle.pami_lp_text.specs.declared.kind.Class.{Class}
 use Rattle.pami_lp_text.specs.declared.kind.Class.TheVariants as classes
 use Rattle.pami_lp_text.specs.Classes.{Symbol}
-use Rattle.pami_lp.specs.Grammar.{Item, item, item_of, items_of, mark, said, head, Turn, Plus, Minus, turn, signs, number_before, Term, term, Further, further, Terms, terms, Size, Number, Infinity, size, Value, value, label, Way, way, Side, Right, Left, Both, side, Row, row, rows, Part, Named, Alone, part, Later, later, Goal, Nothing, Parts, goal, rows_word, Bound, Set, From, Between, Freed, bound, bounds, section, ending, File, file, goes_on, IsClosed, AreClosed, IsClosedFile}
+use Rattle.pami_lp.specs.Grammar.{Item, item, items_of, mark, said, head, Turn, Plus, Minus, turn, signs, number_before, Term, term, Further, further, Terms, terms, Size, Number, Infinity, size, Value, value, label, way, Side, Right, Left, Both, side, Row, rows, Part, Named, Alone, part, Later, later, Goal, Nothing, Parts, goal, rows_word, Bound, Set, From, Between, Freed, bound, bounds, section, File, file, goes_on, IsClosed, AreClosed, IsClosedFile}
 use Rattle.pami_lp.proofs.Shape as shape
 use Rattle.pami_lp.proofs.Stepped.{classes_of}
 

@@ -14,7 +14,7 @@ use Rattle.pami_lp.specs.Acts.{Seen}
 use Rattle.pami_lp.specs.Run.{step}
 use Rattle.pami_lp.specs.Outcome.{is_end}
 use Rattle.pami_lp.specs.Grammar.{Item, Turn, Plus, Minus, head, mark, signs, turn}
-use Rattle.pami_lp.specs.Meaning.{Opened, is_minus, negated}
+use Rattle.pami_lp.specs.Meaning.{Opened, negated}
 
 -- a token was taken, or it wasn't
 abbrev pub go : Result Seen FileKind → (Seen → Result Draft FileKind) → Result Draft FileKind

@@ -1,5 +1,5 @@
 -- A text has a model exactly where the reader of its tokens gives one, and a first fault exactly where it gives that.
-use Rattle.std.proofs.Common.{◌≡◌, ℕ, ◌+◌, ◌<◌, ◌≤◌, Bool, true, false, true≢false, cond, nat_lt, length, List, [], ◌∷◌, ◌++◌, Option, None, Some, is_some, Result, Ok, Err, is_ok, inl, inr, refl, sym, ap, subst, ◌∙◌, arith}
+use Rattle.std.proofs.Common.{◌≡◌, ℕ, ◌<◌, ◌≤◌, Bool, true, false, true≢false, cond, nat_lt, length, List, [], ◌∷◌, ◌++◌, Option, None, Some, is_some, Result, Ok, Err, is_ok, inl, inr, refl, sym, ap, ◌∙◌, arith}
 use Rattle.std.proofs.lemmas.Bool.{ltb-false, ltb-true}
 use Rattle.pami_frac.specs.Answers.{then as chain}
 use Rattle.pami_edge.specs.Lines.{lines_of}
@@ -7,7 +7,7 @@ use Rattle.pami_model.specs.declared.fault.Crossed.{Crossed as Pair}
 use Rattle.pami_model.specs.declared.fault.FileFault.{FileFault}
 use Rattle.pami_model.specs.declared.fault.FileKind.{FileKind}
 use Rattle.pami_model.specs.declared.fault.FileKind.TheVariants as kinds
-use Rattle.pami_model.specs.Contents.{Contents, contents_of}
+use Rattle.pami_model.specs.Contents.{Contents}
 use Rattle.pami_model.specs.Draft.{Draft, first_crossed}
 use Rattle.pami_model.specs.Rules.{byte_limit}
 use Rattle.pami_lp_text.specs.Classes.{Symbol}
@@ -15,10 +15,9 @@ use Rattle.pami_lp_text.specs.declared.kind.Class.{Class}
 use Rattle.pami_lp_text.specs.declared.kind.Class.TheVariants as classes
 use Rattle.pami_lp.specs.declared.kind.Move.{Move}
 use Rattle.pami_lp.specs.declared.kind.Section.{Section}
-use Rattle.pami_lp.specs.Acts.{Seen, act}
+use Rattle.pami_lp.specs.Acts.{Seen}
 use Rattle.pami_lp.specs.Grammar.{Item, file, items_of}
-use Rattle.pami_lp.specs.Lp.{Begins, FirstFault, HasModelOrFault, TooLong, Refused, Faulty, Crossing, Missing, IsWhole, Lp, Stands, known, through, tokens_of}
-use Rattle.pami_lp.specs.Meaning.{draft_of}
+use Rattle.pami_lp.specs.Lp.{Begins, FirstFault, HasModelOrFault, TooLong, Refused, Faulty, Crossing, Missing, Lp, Stands, known, through, tokens_of}
 use Rattle.pami_lp.specs.Moves.{move_of, section_at}
 use Rattle.pami_lp.specs.Outcome.{closed, closed_by, fault_at, first_class, is_end, outcome, reads, taken}
 use Rattle.pami_lp.specs.Run.{done, start, step}

@@ -24,3 +24,4 @@ pub mod Wholes
 pub mod Bare
 pub mod Joins
 pub mod Answering
+pub mod Gathered

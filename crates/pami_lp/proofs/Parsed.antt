@@ -1,18 +1,15 @@
 -- What is taken to the end is a file of the grammar.
-use Rattle.std.proofs.Common.{◌≡◌, Bool, true, false, true≢false, cond, List, [], ◌∷◌, Option, None, Some, refl, sym, ap, subst, ◌∙◌}
-use Rattle.pami_model.specs.declared.model.Sense.{Sense}
+use Rattle.std.proofs.Common.{◌≡◌, Bool, true, false, true≢false, cond, List, [], ◌∷◌, Option, None, Some, refl, sym, ap, ◌∙◌}
 use Rattle.pami_lp_text.specs.declared.kind.Relation.{Relation}
-use Rattle.pami_lp_text.specs.declared.kind.Relation.TheVariants as relations
 use Rattle.pami_lp_text.specs.declared.kind.Class.{Class}
 use Rattle.pami_lp_text.specs.declared.kind.Class.TheVariants as classes
 use Rattle.pami_lp.specs.declared.kind.Place.{Place}
 use Rattle.pami_lp.specs.declared.kind.Place.TheVariants as places
 use Rattle.pami_lp.specs.declared.kind.Role.TheVariants as roles
 use Rattle.pami_lp.specs.Moves.{goes_on, agrees, row_name, is_name_class, is_colon_class, row_left, bound_left}
-use Rattle.pami_lp.specs.Outcome.{is_end}
-use Rattle.pami_lp.specs.Grammar.{Turn, Plus, Minus, turn, Way, Below, Above, way}
-use Rattle.pami_lp.proofs.Shape.{number_before, Term, term, Further, further, Value, value_end, value, label, Side, Right, Left, Both, side, Row, rows, Part, Named, Alone, part, Later, later, Goal, Nothing, Parts, goal, rows_word, Bound, Set, From, Between, Freed, bounds, section, File, file, head, IsClosed, AreClosed, walk, walk_by, EndsAreFiles}
-use Rattle.pami_lp.proofs.Rests.{Righted, Ended, Twice, Once, Two, Sets, Frees, AfterValue, BoundAgainIs, BoundColumnIs, BoundNameIs, BoundSignedIs, BoundValueIs, BoundsIs, FileIs, FurtherIs, GoalColonIs, GoalIs, GoalNameIs, HeadIs, LaterIs, LeftIs, NameIs, PartIs, Rest, RowColonIs, RowsIs, SecondIs, SideIs, Tail, TailOf, TermsIs, ValueIs, bound_value_last, bound_value_turn, bounds_column, bounds_end, bounds_value, end_of, file_head, further_right, further_turn, further_twice, goal_part, goal_tail, goal_turn, head_goal, head_label, is_none, last, later_tail, later_turn, left_name, name_again, name_ended, name_further, name_once, name_two, on, part_alone, part_name, part_number, part_turn, relation_in, row_of, rows_bounds, rows_end, rows_label, rows_side, side_left, side_right, side_turn, signed_last, signed_turn, tail_pair, tail_rows, terms_name, terms_number, terms_turn, value_last, value_turn}
+use Rattle.pami_lp.specs.Grammar.{Plus, Minus}
+use Rattle.pami_lp.proofs.Shape.{value_end, head, walk, walk_by, EndsAreFiles}
+use Rattle.pami_lp.proofs.Rests.{Sets, Frees, AfterValue, BoundAgainIs, BoundNameIs, BoundSignedIs, BoundsIs, FurtherIs, GoalColonIs, GoalNameIs, HeadIs, LaterIs, LeftIs, NameIs, PartIs, Rest, RowColonIs, RowsIs, SideIs, ValueIs, bound_value_last, bound_value_turn, bounds_column, bounds_end, bounds_value, end_of, file_head, further_right, further_turn, further_twice, goal_part, goal_tail, goal_turn, head_goal, head_label, later_tail, later_turn, left_name, name_again, name_ended, name_further, name_once, on, part_alone, part_name, part_number, part_turn, rows_bounds, rows_end, rows_label, rows_side, side_left, side_right, side_turn, signed_last, signed_turn, tail_pair, tail_rows, terms_name, terms_number, terms_turn, value_last, value_turn}
 
 abbrev chosen : Bool → Place → Place → List Class → Option Place
 chosen b p q cs = walk (cond b p q) cs

@@ -1,5 +1,5 @@
 -- What is left to be written from a place on.
-use Rattle.std.proofs.Common.{◌≡◌, Bool, true, false, true≢false, cond, List, [], ◌∷◌, Option, None, Some, refl, sym, ap, subst, ◌∙◌}
+use Rattle.std.proofs.Common.{◌≡◌, Bool, true, false, true≢false, List, [], ◌∷◌, Option, None, Some, refl, sym, ap, subst, ◌∙◌}
 use Rattle.pami_model.specs.declared.model.Sense.{Sense}
 use Rattle.pami_lp_text.specs.declared.kind.Relation.{Relation}
 use Rattle.pami_lp_text.specs.declared.kind.Relation.TheVariants as relations
@@ -7,11 +7,10 @@ use Rattle.pami_lp_text.specs.declared.kind.Class.{Class}
 use Rattle.pami_lp_text.specs.declared.kind.Class.TheVariants as classes
 use Rattle.pami_lp.specs.declared.kind.Place.{Place}
 use Rattle.pami_lp.specs.declared.kind.Place.TheVariants as places
-use Rattle.pami_lp.specs.declared.kind.Role.TheVariants as roles
-use Rattle.pami_lp.specs.Moves.{goes_on, agrees, row_name, is_name_class, is_colon_class, row_left, bound_left}
+use Rattle.pami_lp.specs.Moves.{goes_on, agrees}
 use Rattle.pami_lp.specs.Outcome.{is_end}
-use Rattle.pami_lp.specs.Grammar.{Turn, Plus, Minus, turn, Way, Below, Above, way}
-use Rattle.pami_lp.proofs.Shape.{number_before, Term, term, Further, further, Value, value_end, value, label, Side, Right, Left, Both, side, Row, rows, Part, Named, Alone, part, Later, later, Goal, Nothing, Parts, goal, rows_word, Bound, Set, From, Between, Freed, bounds, section, File, file, head, IsClosed, AreClosed, walk, walk_by, EndsAreFiles}
+use Rattle.pami_lp.specs.Grammar.{Turn, turn, Way, Below, Above, way}
+use Rattle.pami_lp.proofs.Shape.{number_before, Term, term, Further, further, Value, value_end, value, label, Side, Right, Left, Both, side, Row, rows, Part, Named, Alone, part, Later, later, Goal, Nothing, Parts, goal, rows_word, Bound, Set, From, Between, Freed, bounds, section, File, file, head, IsClosed, AreClosed}
 
 abbrev pub end_of : Option Place → Bool
 end_of (Some p) = is_end p

@@ -3,13 +3,12 @@
 use Rattle.std.specs.Prelude.{◌≡◌, ◌++◌, Bool, true, false, List, [], ◌∷◌, Option, None, Some}
 use Rattle.pami_model.specs.declared.model.Sense.{Sense}
 use Rattle.pami_lp_text.specs.declared.kind.Relation.{Relation}
-use Rattle.pami_lp_text.specs.declared.kind.Relation.TheVariants as relations
 use Rattle.pami_lp_text.specs.declared.kind.Class.{Class}
 use Rattle.pami_lp_text.specs.declared.kind.Class.TheVariants as classes
 use Rattle.pami_lp.specs.declared.kind.Place.{Place}
 use Rattle.pami_lp.specs.declared.kind.Place.TheVariants as places
 use Rattle.pami_lp.specs.declared.kind.Move.{Move}
-use Rattle.pami_lp.specs.Grammar.{Turn, Plus, Minus, turn, Way, Below, Above, way, goes_on}
+use Rattle.pami_lp.specs.Grammar.{Turn, turn, Way, way, goes_on}
 use Rattle.pami_lp.specs.Moves.{move_of}
 
 -- sign*

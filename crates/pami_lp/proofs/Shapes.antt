@@ -1,9 +1,8 @@
 -- The shape of a file of the grammar: the same tree without texts, written as the classes of its items.
 use Rattle.std.proofs.Common.{◌≡◌, ℕ, Bool, true, false, List, [], ◌∷◌, map, Option, None, Some, is_some, refl, sym, ap, ◌∙◌}
-use Rattle.pami_lp_text.specs.declared.kind.Relation.{Relation}
 use Rattle.pami_lp_text.specs.declared.kind.Class.{Class}
 use Rattle.pami_lp_text.specs.declared.kind.Class.TheVariants as classes
-use Rattle.pami_lp.specs.Grammar.{Item, item, mark, head, Turn, turn, signs, number_before, Term, term, Further, further, Terms, terms, Size, Number, Infinity, size, Value, value, label, Way, way, Side, Right, Left, Both, side, Row, row, rows, Part, Named, Alone, part, Later, later, Goal, Nothing, Parts, goal, rows_word, Bound, Set, From, Between, Freed, bound, bounds, section, ending, File, file, goes_on, IsClosed, AreClosed, IsClosedFile}
+use Rattle.pami_lp.specs.Grammar.{Item, head, Turn, turn, signs, number_before, Term, term, Further, further, Terms, terms, Size, Number, Infinity, size, Value, value, label, way, Side, Right, Left, Both, side, Row, rows, Part, Named, Alone, part, Later, later, Goal, Nothing, Parts, goal, rows_word, Bound, Set, From, Between, Freed, bound, bounds, section, ending, File, file, goes_on, IsClosed, AreClosed, IsClosedFile}
 use Rattle.pami_lp.proofs.Shape as shape
 
 abbrev pub classes_in : List Item → List Class

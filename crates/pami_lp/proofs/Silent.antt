@@ -2,8 +2,7 @@
 use Rattle.std.proofs.Common.{◌≡◌, ℕ, Bool, true, false, true≢false, cond, ◌||◌, List, [], Option, None, Some, refl, sym}
 use Rattle.pami_frac.specs.Answers.{then as chain}
 use Rattle.pami_model.specs.declared.fault.FileKind.{FileKind}
-use Rattle.std.proofs.Common.{Result, Ok, Err, ap}
-use Rattle.pami_lp_text.specs.declared.kind.Relation.{Relation}
+use Rattle.std.proofs.Common.{Result, Ok, ap}
 use Rattle.pami_lp_text.specs.declared.kind.Class.{Class}
 use Rattle.pami_lp_text.specs.declared.kind.Class.TheVariants as classes
 use Rattle.pami_lp.specs.declared.kind.Place.{Place}

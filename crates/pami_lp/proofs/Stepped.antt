@@ -1,5 +1,5 @@
 -- What a step that is taken says of places, and what known tokens say of the walk over their classes.
-use Rattle.std.proofs.Common.{◌≡◌, ℕ, Bool, true, false, true≢false, cond, List, [], ◌∷◌, ◌++◌, map, fold, Option, None, Some, is_some, Result, Ok, Err, is_ok, refl, sym, ap, subst, ◌∙◌}
+use Rattle.std.proofs.Common.{◌≡◌, ℕ, Bool, true, false, true≢false, List, [], ◌∷◌, map, fold, Option, None, Some, is_some, Result, Ok, Err, is_ok, refl, sym, ap, ◌∙◌}
 use Rattle.pami_frac.specs.Answers.{then as chain}
 use Rattle.pami_model.specs.declared.fault.FileKind.{FileKind}
 use Rattle.pami_lp_text.specs.declared.kind.Class.{Class}
@@ -12,11 +12,11 @@ use Rattle.pami_lp.specs.declared.kind.Section.{Section}
 use Rattle.pami_lp.specs.Acts.{Seen, act}
 use Rattle.pami_lp.specs.Lp.{class_or, known}
 use Rattle.pami_lp.specs.Moves.{move_of, section_at}
-use Rattle.pami_lp.specs.Outcome.{first_class, is_end}
+use Rattle.pami_lp.specs.Outcome.{is_end}
 use Rattle.pami_lp.specs.Run.{done, step}
 use Rattle.pami_lp.specs.Sections.{section_behind}
 use Rattle.pami_lp.proofs.Shape.{head_or, walk, walk_by, walk_to}
-use Rattle.pami_lp.proofs.Ends.{ends_at, ends_is, ends_move}
+use Rattle.pami_lp.proofs.Ends.{ends_is, ends_move}
 use Rattle.pami_lp.proofs.Landings.{section_moved}
 
 abbrev pub classes_of : List Symbol → List Class

@@ -1,15 +1,13 @@
 -- A token that can't be taken: no file of the grammar begins so.
-use Rattle.std.proofs.Common.{◌≡◌, Bool, true, false, true≢false, cond, List, [], ◌∷◌, ◌++◌, Option, None, Some, is_some, refl, sym, ap, ◌∙◌}
-use Rattle.pami_lp_text.specs.declared.kind.Relation.{Relation}
+use Rattle.std.proofs.Common.{◌≡◌, false, true≢false, List, [], ◌∷◌, ◌++◌, Option, None, Some, is_some, refl, sym, ap, ◌∙◌}
 use Rattle.pami_lp_text.specs.declared.kind.Class.{Class}
-use Rattle.pami_lp_text.specs.declared.kind.Class.TheVariants as classes
 use Rattle.pami_lp.specs.declared.kind.Place.{Place}
 use Rattle.pami_lp.specs.declared.kind.Place.TheVariants as places
 use Rattle.pami_lp.specs.declared.kind.Move.{Move}
-use Rattle.pami_lp.specs.Moves.{move_of, goes_on, agrees, row_name, row_left, bound_left, is_name_class, is_colon_class}
+use Rattle.pami_lp.specs.Moves.{move_of}
 use Rattle.pami_lp.proofs.Shape.{head, head_or, walk, walk_by, walk_to, RefusedIsStuck}
 use Rattle.pami_lp.proofs.Grammars.{files_taken}
-use Rattle.pami_lp.proofs.Takes.{both, bound_some, left_some, name_some, or_else, right_some, takes, takes_is}
+use Rattle.pami_lp.proofs.Takes.{takes_is}
 
 none_by : (m : Option Move) → is_some m ≡ false → m ≡ None
 none_by None h = refl

@@ -1,5 +1,5 @@
 -- Which tokens can be taken at a place, whatever follows.
-use Rattle.std.proofs.Common.{◌≡◌, Bool, true, false, true≢false, cond, List, [], ◌∷◌, ◌++◌, Option, None, Some, is_some, refl, sym, ap, ◌∙◌}
+use Rattle.std.proofs.Common.{◌≡◌, Bool, true, false, cond, Option, None, Some, is_some, refl}
 use Rattle.pami_lp_text.specs.declared.kind.Relation.{Relation}
 use Rattle.pami_lp_text.specs.declared.kind.Class.{Class}
 use Rattle.pami_lp_text.specs.declared.kind.Class.TheVariants as classes
@@ -7,8 +7,6 @@ use Rattle.pami_lp.specs.declared.kind.Place.{Place}
 use Rattle.pami_lp.specs.declared.kind.Place.TheVariants as places
 use Rattle.pami_lp.specs.declared.kind.Move.{Move}
 use Rattle.pami_lp.specs.Moves.{move_of, goes_on, agrees, row_name, row_left, bound_left, is_name_class, is_colon_class}
-use Rattle.pami_lp.proofs.Shape.{head, head_or, walk, walk_by, walk_to, RefusedIsStuck}
-use Rattle.pami_lp.proofs.Grammars.{files_taken}
 
 pub both : (b : Bool) (x y : Move) → is_some (cond b (Some x) (Some y)) ≡ true
 both true x y = refl

@@ -1,5 +1,5 @@
 -- Where a reader of tokens stops: at a faulty one, at the end of the file, or behind the last token.
-use Rattle.std.proofs.Common.{◌≡◌, ℕ, ◌+◌, Bool, true, false, true≢false, cond, List, [], ◌∷◌, ◌++◌, Option, None, Some, Result, Ok, Err, refl, sym, ap, ◌∙◌}
+use Rattle.std.proofs.Common.{◌≡◌, ℕ, ◌+◌, Bool, true, false, cond, List, [], ◌∷◌, ◌++◌, Result, Ok, Err, refl, sym, ap, ◌∙◌}
 use Rattle.pami_frac.specs.Answers.{then as chain}
 use Rattle.pami_model.specs.declared.fault.FileFault.{FileFault}
 use Rattle.pami_model.specs.declared.fault.FileKind.{FileKind}
@@ -12,7 +12,7 @@ use Rattle.pami_lp.specs.Acts.{Seen}
 use Rattle.pami_lp.specs.Lp.{class_or, known}
 use Rattle.pami_lp.specs.Outcome.{fault_at, first_class, is_end, reads, taken}
 use Rattle.pami_lp.specs.Run.{step}
-use Rattle.pami_lp.proofs.Stepped.{Unfolded, ok_same, open_before, unfolded}
+use Rattle.pami_lp.proofs.Stepped.{ok_same, open_before, unfolded}
 
 -- known tokens in front of a token, behind which the file isn't at its end
 pub record Before (s : Seen) (ts front : List Symbol) (token : Symbol) (back : List Symbol) (x : Seen) : Type 0 where

@@ -1,5 +1,5 @@
 -- Tokens that are walked over begin files of the grammar, and those that lead to the end are whole files.
-use Rattle.std.proofs.Common.{◌≡◌, ℕ, Bool, true, false, true≢false, List, [], ◌∷◌, ◌++◌, map, Option, None, Some, Result, Ok, Err, refl, sym, ap, ◌∙◌}
+use Rattle.std.proofs.Common.{◌≡◌, Bool, true, false, true≢false, List, [], ◌∷◌, ◌++◌, map, Option, None, Some, Ok, refl, sym, ap, ◌∙◌}
 use Rattle.std.proofs.lemmas.List.{map-append}
 use Rattle.pami_lp_text.specs.Classes.{Symbol}
 use Rattle.pami_lp_text.specs.declared.kind.Class.{Class}

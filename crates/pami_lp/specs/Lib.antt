@@ -5,6 +5,7 @@ pub mod Sums
 pub mod Known
 pub mod Grammar
 pub mod Meaning
+pub mod Gather
 pub mod Sections
 pub mod Moves
 pub mod Acts

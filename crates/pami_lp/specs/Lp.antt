@@ -1,5 +1,5 @@
 -- The bytes are an LP text of a model, or this is the first thing that is wrong with them.
-use Rattle.std.specs.Prelude.{◌≡◌, ℕ, ◌+◌, ◌<◌, ◌≤◌, ◌⊎◌, List, [], ◌∷◌, ◌++◌, length, Option, None, Some, Result, Ok, Err}
+use Rattle.std.specs.Prelude.{◌≡◌, ℕ, ◌+◌, ◌<◌, ◌≤◌, ◌⊎◌, List, [], ◌∷◌, ◌++◌, length, None, Some, Result, Ok, Err}
 use Rattle.pami_frac.specs.declared.fault.Fault.{Fault}
 use Rattle.pami_frac.specs.declared.fault.Fault.TheVariants as faults
 use Rattle.pami_frac.specs.Answers.{then as chain}
@@ -17,7 +17,7 @@ use Rattle.pami_lp_text.specs.Lexeme.{text_words}
 use Rattle.pami_lp_text.specs.declared.kind.Class.{Class}
 use Rattle.pami_lp_text.specs.declared.kind.Class.TheVariants as classes
 use Rattle.pami_lp.specs.Acts.{Seen}
-use Rattle.pami_lp.specs.Grammar.{File, IsClosedFile, Item, file, item_of, items_of}
+use Rattle.pami_lp.specs.Grammar.{File, IsClosedFile, Item, file, items_of}
 use Rattle.pami_lp.specs.Meaning.{draft_of}
 use Rattle.pami_lp.specs.Outcome.{fault_at, first_class}
 use Rattle.pami_lp.specs.Run.{start, step}

@@ -12,7 +12,7 @@ use Rattle.pami_model.specs.Draft.{Draft, empty_draft}
 use Rattle.pami_lp_text.specs.declared.kind.Relation.{Relation}
 use Rattle.pami_lp.specs.Values.{coefficient_of, number_of, read_side, signed, turned, unbounded}
 use Rattle.pami_lp.specs.Rules.{Bounded, add_constant, add_cost, add_term, bounded, end_row, name_by, set_bound, set_free, stand}
-use Rattle.pami_lp.specs.Grammar.{Turn, Plus, Minus, Term, Further, Terms, Size, Number, Infinity, Value, Way, way, Side, Right, Left, Both, Row, Part, Named, Alone, Later, Goal, Nothing, Parts, Bound, Set, From, Between, Freed, File}
+use Rattle.pami_lp.specs.Grammar.{Turn, Plus, Minus, Term, Further, Terms, Size, Number, Infinity, Value, way, Side, Right, Left, Both, Row, Part, Named, Alone, Later, Goal, Nothing, Parts, Bound, Set, From, Between, Freed, File}
 
 -- ---- signs and numbers
 

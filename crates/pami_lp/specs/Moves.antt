@@ -1,7 +1,6 @@
 -- The grammar token by token: what a token does at a place, and the place behind it.
 use Rattle.std.specs.Prelude.{Bool, true, false, ◌&&◌, Option, None, Some, if◌then◌else◌}
 use Rattle.pami_lp_text.specs.declared.kind.Relation.{Relation}
-use Rattle.pami_lp_text.specs.declared.kind.Relation.TheVariants as relations
 use Rattle.pami_lp_text.specs.declared.kind.Class.{Class}
 use Rattle.pami_lp_text.specs.declared.kind.Class.TheVariants as classes
 use Rattle.pami_lp.specs.declared.kind.Place.{Place}

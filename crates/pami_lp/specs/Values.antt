@@ -1,5 +1,5 @@
 -- What the numbers and values of a file's tokens are, and what they set; or the first thing that is wrong with them.
-use Rattle.std.specs.Prelude.{◌≡◌, Bool, List, ℕ, Option, None, Some, Result, Ok, Err, if◌then◌else◌}
+use Rattle.std.specs.Prelude.{Bool, List, ℕ, Option, None, Some, Result, Ok, Err, if◌then◌else◌}
 use lib.IntN.{pos}
 use Rattle.pami_algebra.specs.Fraction.{Fraction}
 use Rattle.pami_algebra.specs.Operations.{neg_f, of_int}

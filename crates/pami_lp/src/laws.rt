@@ -1,8 +1,12 @@
 //! Laws of the definitions.
 
-ghost use Rattle.std.specs.Prelude.{◌≡◌, ℕ, List};
+ghost use Rattle.std.specs.Prelude.{◌≡◌, ℕ, List, Ok};
 ghost use Rattle.pami_model.specs.Contents.{Contents};
 ghost use Rattle.pami_model.specs.declared.fault.FileFault.{FileFault};
+ghost use Rattle.pami_model.specs.Draft.{Draft};
+ghost use Rattle.pami_lp.specs.Gather.{IsGathered};
+ghost use Rattle.pami_lp.specs.Grammar.{File};
+ghost use Rattle.pami_lp.specs.Meaning.{draft_of};
 ghost use Rattle.pami_lp.specs.Lp.{FirstFault, HasModelOrFault, Lp};
 
 /// One text has one model.
@@ -23,4 +27,10 @@ pub fn model_or_fault()
 /// And not both.
 pub fn not_model_and_fault()
     ensures { (bytes : List ℕ) (c : Contents) (f : FileFault) → Lp bytes c → ¬ FirstFault bytes f }
+{}
+
+/// What a file gives is gathered from its parts: its columns are its names, each once by first appearance, and its rows
+/// those of the file in their order, with the names and the sides that they say.
+pub fn files_are_gathered()
+    ensures { (f : File) (d : Draft) → draft_of f ≡ Ok d → IsGathered f d }
 {}

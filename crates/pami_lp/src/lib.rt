@@ -17,5 +17,7 @@ mod tests;
 mod value;
 
 pub use kind::{Move, Place, Role, Section};
-pub use laws::{model_or_fault, not_model_and_fault, one_first_fault, one_model};
+pub use laws::{
+    files_are_gathered, model_or_fault, not_model_and_fault, one_first_fault, one_model,
+};
 pub use read::read_lp;

@@ -1,5 +1,4 @@
-use Rattle.std.proofs.Common.{◌≡◌, ◌<◌, ◌≢◌, ℕ, length, get_or, sym, ap, ◌∙◌, arith}
-use Rattle.std.proofs.lemmas.List.{get_or-map, length-map, get_or_default}
+use Rattle.std.proofs.Common.{◌≡◌, ℕ, length, get_or, sym, ap, ◌∙◌, arith}
 use Rattle.pami_lp.specs.Placed.{columns_in}
 use Rattle.pami_lp.proofs.Places.{placed-found, placed-none, column_here, past_places, at_place}
 use Rattle.pami_lp.proofs.sums.place_of.Goals as goal

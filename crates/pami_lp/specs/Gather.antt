@@ -1,0 +1,77 @@
+-- What the parts of a file give, gathered: its columns by first appearance, and its rows with their names and sides.
+use Rattle.std.specs.Prelude.{◌≡◌, ℕ, ◌+◌, List, [], ◌∷◌, ◌++◌, map, fold, Option, None, Some, Result, Ok, Err, if◌then◌else◌}
+use Rattle.std.specs.List.{flat_map}
+use Rattle.std.specs.Option.{is_some}
+use Rattle.pami_frac.specs.declared.list.Bounds.{Bounds}
+use Rattle.pami_frac.specs.Answers.{then as chain}
+use Rattle.pami_model.specs.declared.fault.FileKind.{FileKind}
+use Rattle.pami_model.specs.declared.list.Row.{Row as ModelRow}
+use Rattle.pami_model.specs.Draft.{Draft, new_row, place_of}
+use Rattle.pami_model.specs.Rules.{names_of_columns}
+use Rattle.pami_lp.specs.Grammar.{Bound, Set, From, Between, Freed, File, Further, Goal, Nothing, Parts, Later, Part, Named, Alone, Row, Side, Right, Left, Both, Terms, way}
+use Rattle.pami_lp.specs.Meaning.{left_side, right_side}
+use Rattle.pami_lp.specs.Rules.{name_by}
+use Rattle.pami_lp.specs.Values.{unbounded}
+
+-- ---- columns
+
+-- the names with one more, unless it stands among them
+abbrev pub with_name : List (List ℕ) → List ℕ → List (List ℕ)
+with_name names name = if is_some (place_of name names) then names else names ++ name ∷ []
+
+-- each name once, in the order of the first places
+abbrev pub once : List (List ℕ) → List (List ℕ)
+once names = fold with_name [] names
+
+abbrev pub part_names : Part → List (List ℕ)
+part_names (Named t) = t.name ∷ []
+part_names (Alone ts text) = []
+
+abbrev pub goal_names : Goal → List (List ℕ)
+goal_names Nothing = []
+goal_names (Parts p ls) = part_names p ++ flat_map (λ (l : Later). part_names l.part) ls
+
+abbrev pub terms_names : Terms → List (List ℕ)
+terms_names ts = ts.first.name ∷ map (λ (f : Further). f.term.name) ts.more
+
+abbrev pub side_names : Side → List (List ℕ)
+side_names (Right ts r v) = terms_names ts
+side_names (Left v r ts) = terms_names ts
+side_names (Both v w ts u) = terms_names ts
+
+abbrev pub bound_name : Bound → List ℕ
+bound_name (Set name r v) = name
+bound_name (From v r name) = name
+bound_name (Between v w name u) = name
+bound_name (Freed name) = name
+
+abbrev pub section_names : Option (List Bound) → List (List ℕ)
+section_names None = []
+section_names (Some bs) = map bound_name bs
+
+-- the names of columns in a file, in their order: in the objective, in the rows, in the bounds
+abbrev pub file_names : File → List (List ℕ)
+file_names f = goal_names f.goal ++ (flat_map (λ (r : Row). side_names r.side) f.rows ++ section_names f.bounds)
+
+-- ---- rows
+
+-- the sides that a row's values set, and no sides where one is faulty
+abbrev pub sides_by : Result Bounds FileKind → Bounds
+sides_by (Ok sides) = sides
+sides_by (Err kind) = unbounded
+
+abbrev pub sides_of : Side → Bounds
+sides_of (Right ts r v) = sides_by (right_side r v unbounded)
+sides_of (Left v r ts) = sides_by (left_side v r unbounded)
+sides_of (Both v w ts u) = sides_by (chain (left_side v (way w) unbounded) (λ sides. right_side (way w) u sides))
+
+-- the rows from this place on: each by its name, or R1, R2, .. by its place among all, and its sides
+abbrev pub rows_from : ℕ → List Row → List ModelRow
+rows_from k [] = []
+rows_from k (r ∷ rs) = new_row (name_by k r.label) (sides_of r.side) ∷ rows_from (k + 1) rs
+
+-- a file's columns are its names, each once by first appearance, and its rows those of the file in order
+pub record IsGathered (f : File) (d : Draft) : Type 0 where
+  pub sense : d.sense ≡ f.sense
+  pub rows : d.rows ≡ rows_from 0 f.rows
+  pub columns : names_of_columns d.columns ≡ once (file_names f)
