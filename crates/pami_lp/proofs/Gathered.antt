@@ -27,7 +27,7 @@ pub record On {A B : Type 0} (r : Result A FileKind) (f : A → Result B FileKin
   pub is : r ≡ Ok value
   pub then : f value ≡ Ok y
 
-on : {A B : Type 0} (r : Result A FileKind) (f : A → Result B FileKind) (y : B) → chain r f ≡ Ok y → On r f y
+pub on : {A B : Type 0} (r : Result A FileKind) (f : A → Result B FileKind) (y : B) → chain r f ≡ Ok y → On r f y
 on (Ok x) f y h = record { value = x; is = refl; then = h }
 on (Err k) f y h = not_ok h
 
@@ -71,7 +71,7 @@ changed-names (c ∷ cs) i f h = by (nat_eq i 0) (changed-names cs (i - 1) f h)
 keeps_changed : (d : Draft) (i : ℕ) (f : Column → Column) (pairs : List (ℕ × ℕ)) → ((c : Column) → (f c).name ≡ c.name) → Keeps d (record d { pairs = pairs; columns = changed i f d.columns }) []
 keeps_changed d i f pairs h = record { cols = changed-names d.columns i f h; rows = refl; sense = refl }
 
-judged_on : {A : Type 0} (o : Option FileKind) (x y : A) → judged o x ≡ Ok y → x ≡ y
+pub judged_on : {A : Type 0} (o : Option FileKind) (x y : A) → judged o x ≡ Ok y → x ≡ y
 judged_on None x y h = ok_same h
 judged_on (Some k) x y h = not_ok h
 
@@ -122,7 +122,7 @@ goal_keeps (Parts p ls) d e h =
     let a = on (take_part false p d) (λ d. take_later ls d) e h in
     keeps_both d a.value e (part_names p) _ (part_keeps p false d a.value a.is) (later_keeps ls a.value e a.then)
 
-label_keeps : (l : Option (List ℕ)) (d e : Draft) → take_label l d ≡ Ok e → d ≡ e
+pub label_keeps : (l : Option (List ℕ)) (d e : Draft) → take_label l d ≡ Ok e → d ≡ e
 label_keeps None d e h = ok_same h
 label_keeps (Some name) d e h = by (nat_lt name_limit (length name)) h
   where

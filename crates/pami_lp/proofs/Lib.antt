@@ -25,3 +25,5 @@ pub mod Bare
 pub mod Joins
 pub mod Answering
 pub mod Gathered
+pub mod Prices
+pub mod Still

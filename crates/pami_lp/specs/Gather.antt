@@ -1,17 +1,23 @@
--- What the parts of a file give, gathered: its columns by first appearance, and its rows with their names and sides.
-use Rattle.std.specs.Prelude.{◌≡◌, ℕ, ◌+◌, List, [], ◌∷◌, ◌++◌, map, fold, Option, None, Some, Result, Ok, Err, if◌then◌else◌}
+-- What the parts of a file give, gathered: its columns by first appearance, their costs, the constant, and its rows with
+-- their names and sides.
+use Rattle.std.specs.Prelude.{◌≡◌, ℕ, ◌+◌, Bool, false, List, [], ◌∷◌, ◌++◌, map, filter, fold, Option, None, Some, Result, Ok, Err, if◌then◌else◌}
 use Rattle.std.specs.List.{flat_map}
-use Rattle.std.specs.Option.{is_some}
+use Rattle.std.specs.Option.{is_some, option_map}
+use Rattle.std.specs.Str.{bytes_eq}
+use Rattle.pami_algebra.specs.Fraction.{Fraction}
+use Rattle.pami_algebra.specs.Operations.{◌+ᶠ◌}
+use Rattle.pami_frac.specs.Decimal.{decimal_value}
+use Rattle.pami_model.specs.declared.list.Column.{Column}
 use Rattle.pami_frac.specs.declared.list.Bounds.{Bounds}
 use Rattle.pami_frac.specs.Answers.{then as chain}
 use Rattle.pami_model.specs.declared.fault.FileKind.{FileKind}
 use Rattle.pami_model.specs.declared.list.Row.{Row as ModelRow}
-use Rattle.pami_model.specs.Draft.{Draft, new_row, place_of}
+use Rattle.pami_model.specs.Draft.{Draft, new_column, new_row, place_of, zero}
 use Rattle.pami_model.specs.Rules.{names_of_columns}
-use Rattle.pami_lp.specs.Grammar.{Bound, Set, From, Between, Freed, File, Further, Goal, Nothing, Parts, Later, Part, Named, Alone, Row, Side, Right, Left, Both, Terms, way}
-use Rattle.pami_lp.specs.Meaning.{left_side, right_side}
+use Rattle.pami_lp.specs.Grammar.{Bound, Set, From, Between, Freed, File, Further, Goal, Nothing, Parts, Later, Part, Named, Alone, Row, Side, Right, Left, Both, Term, Terms, way}
+use Rattle.pami_lp.specs.Meaning.{is_minus, left_side, negated, right_side}
 use Rattle.pami_lp.specs.Rules.{name_by}
-use Rattle.pami_lp.specs.Values.{unbounded}
+use Rattle.pami_lp.specs.Values.{coefficient_of, signed, unbounded}
 
 -- ---- columns
 
@@ -75,3 +81,43 @@ pub record IsGathered (f : File) (d : Draft) : Type 0 where
   pub sense : d.sense ≡ f.sense
   pub rows : d.rows ≡ rows_from 0 f.rows
   pub columns : names_of_columns d.columns ≡ once (file_names f)
+
+-- ---- the objective
+
+-- the column of a name, and a new one where there is none
+abbrev pub column_named : List Column → List ℕ → Column
+column_named [] name = new_column name
+column_named (c ∷ cs) name = if bytes_eq name c.name then c else column_named cs name
+
+abbrev pub coefficient_in : Bool → Term → Fraction
+coefficient_in negative t = coefficient_of (negated negative t.turns) (option_map decimal_value t.number)
+
+-- the coefficients of a part with their names, and its constants
+abbrev pub part_prices : Bool → Part → List (List ℕ × Fraction)
+part_prices negative (Named t) = (t.name, coefficient_in negative t) ∷ []
+part_prices negative (Alone ts text) = []
+
+abbrev pub part_constants : Bool → Part → List Fraction
+part_constants negative (Named t) = []
+part_constants negative (Alone ts text) = signed (negated negative ts) (decimal_value text) ∷ []
+
+abbrev pub goal_prices : Goal → List (List ℕ × Fraction)
+goal_prices Nothing = []
+goal_prices (Parts p ls) = part_prices false p ++ flat_map (λ (l : Later). part_prices (is_minus l.turn) l.part) ls
+
+abbrev pub goal_constants : Goal → List Fraction
+goal_constants Nothing = []
+goal_constants (Parts p ls) = part_constants false p ++ flat_map (λ (l : Later). part_constants (is_minus l.turn) l.part) ls
+
+-- a sum with these added in their order
+abbrev pub plus_all : Fraction → List Fraction → Fraction
+plus_all t vs = fold (λ t v. t +ᶠ v) t vs
+
+-- a sum with what is given for a name added in its order
+abbrev pub plus_for : List ℕ → Fraction → List (List ℕ × Fraction) → Fraction
+plus_for name t ps = fold (λ t p. t +ᶠ p.1) t (filter (λ p. bytes_eq name p.0) ps)
+
+-- the constant is the sum of the objective's constants, and a column's cost that of its name's coefficients
+pub record IsPriced (f : File) (d : Draft) : Type 0 where
+  pub constant : d.constant ≡ plus_all zero (goal_constants f.goal)
+  pub costs : (name : List ℕ) → (column_named d.columns name).cost ≡ plus_for name zero (goal_prices f.goal)

@@ -4,7 +4,7 @@ ghost use Rattle.std.specs.Prelude.{◌≡◌, ℕ, List, Ok};
 ghost use Rattle.pami_model.specs.Contents.{Contents};
 ghost use Rattle.pami_model.specs.declared.fault.FileFault.{FileFault};
 ghost use Rattle.pami_model.specs.Draft.{Draft};
-ghost use Rattle.pami_lp.specs.Gather.{IsGathered};
+ghost use Rattle.pami_lp.specs.Gather.{IsGathered, IsPriced};
 ghost use Rattle.pami_lp.specs.Grammar.{File};
 ghost use Rattle.pami_lp.specs.Meaning.{draft_of};
 ghost use Rattle.pami_lp.specs.Lp.{FirstFault, HasModelOrFault, Lp};
@@ -33,4 +33,10 @@ pub fn not_model_and_fault()
 /// those of the file in their order, with the names and the sides that they say.
 pub fn files_are_gathered()
     ensures { (f : File) (d : Draft) → draft_of f ≡ Ok d → IsGathered f d }
+{}
+
+/// The constant of the objective is the sum of its constants, and the cost of each column that of its name's
+/// coefficients there, in their order.
+pub fn costs_are_sums()
+    ensures { (f : File) (d : Draft) → draft_of f ≡ Ok d → IsPriced f d }
 {}
