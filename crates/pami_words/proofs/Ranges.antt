@@ -1,7 +1,6 @@
 -- The numbers of options are in their ranges.
 use Rattle.std.proofs.Common.{◌≡◌, ℕ, ◌≤◌, Bool, true, false, cond, List, [], ◌∷◌, length, Option, None, Some, Result, Ok, Err, refl, sym, arith, nat_le, leb-true, subst}
 use Rattle.std.specs.Prelude.{◌&&◌, option_and_then, option_map, slice_get, IfOk}
-use Rattle.std.specs.Option.{unwrap_or}
 use Rattle.pami_frac.specs.declared.fault.Fault.{Fault}
 use Rattle.pami_frac.specs.Answers.{FollowsBy}
 use Rattle.pami_frac.specs.Decimal.{are_digits, number_after, before, onward}
@@ -15,13 +14,17 @@ use Rattle.pami_words.specs.declared.item.Reading.TheVariants.{Alone, Opens}
 use Rattle.pami_words.specs.declared.table.CommandName.{CommandName}
 use Rattle.pami_words.specs.declared.table.CommandName.TheVariants as names
 use Rattle.pami_words.specs.declared.table.OptionName.{OptionName}
-use Rattle.pami_words.specs.declared.table.OptionName.TheVariants.{Limit}
+use Rattle.pami_words.specs.declared.table.OptionName.TheVariants as options
 use Rattle.pami_words.specs.declared.table.Takes.{Takes}
-use Rattle.pami_words.specs.declared.table.Takes.TheVariants.{Nothing, Number}
+use Rattle.pami_words.specs.declared.table.Takes.TheVariants as takes
+use Rattle.pami_words.specs.declared.value.FileFormat.{FileFormat}
+use Rattle.pami_words.specs.declared.value.Value.{Value}
+use Rattle.pami_words.specs.declared.value.Value.TheVariants as values
 use Rattle.pami_words.specs.Table.{commands, command_row, command_named, option_row, option_named, greatest_limit, default_limit}
 use Rattle.pami_words.specs.Numbers.{number_in, number_between}
-use Rattle.pami_words.specs.Items.{or_bad, is_end, is_plain, is_equals, given_number, option_taking, option_with, option_reading, reading_of, in_front, all_plain, last_item, first_item, items_of}
-use Rattle.pami_words.specs.Words.{numbers_of, are_for, word_at, number_of, asked_by, command_by, command_of, read_outcome, IsInRange}
+use Rattle.pami_words.specs.Values.{format_named, value_in}
+use Rattle.pami_words.specs.Items.{or_bad, is_end, is_plain, is_equals, given, option_valued, option_alone, option_taking, option_with, option_reading, reading_of, in_front, all_plain, last_item, first_item, items_of}
+use Rattle.pami_words.specs.Words.{values_of, are_for, word_at, first_value, number_or, lp_or, asked_by, command_by, command_of, read_outcome, IsInRange}
 use Rattle.pami_words.proofs.Steps.{or_bad_some, some_same}
 
 -- ---- one number
@@ -52,14 +55,17 @@ number_within l g n text e = between l g n (number_in g text) (λ m h. at_most g
 
 -- ---- items
 
--- the number is in the range of what an option takes
-abbrev IsTaken : Takes → ℕ → Type 0
-IsTaken Nothing n = Unit {0}
-IsTaken (Number least greatest) n = (least ≤ n) × (n ≤ greatest)
+-- the value is one of those that an option takes
+abbrev IsTaken : Takes → Value → Type 0
+IsTaken takes.Nothing v = Unit {0}
+IsTaken (takes.Number least greatest) (values.Number n) = (least ≤ n) × (n ≤ greatest)
+IsTaken (takes.Number least greatest) values.Nothing = ⊥
+IsTaken (takes.Number least greatest) (values.Format f) = ⊥
+IsTaken takes.Format v = Unit {0}
 
 abbrev IsTakenBy : Item → Type 0
 IsTakenBy (Plain word) = Unit {0}
-IsTakenBy (Given option n) = IsTaken (option_row option).takes n
+IsTakenBy (Given option v) = IsTaken (option_row option).takes v
 
 abbrev AreTaken : List Item → Type 0
 AreTaken [] = Unit {0}
@@ -76,31 +82,51 @@ AllTaken (Some items) = AreTaken items
 abbrev ReadTaken : Option Reading → Type 0
 ReadTaken None = Unit {0}
 ReadTaken (Some (Alone item)) = IsTakenBy item
-ReadTaken (Some (Opens option least greatest)) = (option_row option).takes ≡ Number least greatest
+ReadTaken (Some (Opens option takes)) = (option_row option).takes ≡ takes
 
-number_taken : (option : OptionName) (least greatest : ℕ) (found : Option ℕ) → (option_row option).takes ≡ Number least greatest →
-    ((n : ℕ) → found ≡ Some n → (least ≤ n) × (n ≤ greatest)) → OneTaken (option_map (λ n. Given option n) found)
-number_taken option least greatest None e h = tt
-number_taken option least greatest (Some n) e h = subst (λ takes. IsTaken takes n) (sym e) (h n refl)
+abbrev OneValue : Takes → Option Value → Type 0
+OneValue takes None = Unit {0}
+OneValue takes (Some v) = IsTaken takes v
 
-given_taken : (option : OptionName) (least greatest : ℕ) (text : List ℕ) → (option_row option).takes ≡ Number least greatest →
-    OneTaken (given_number option least greatest text)
-given_taken option least greatest text e =
-    number_taken option least greatest (number_between least greatest text) e (λ n h. number_within least greatest n text h)
+number_taken : (least greatest : ℕ) (found : Option ℕ) → ((n : ℕ) → found ≡ Some n → (least ≤ n) × (n ≤ greatest)) →
+    OneValue (takes.Number least greatest) (option_map values.Number found)
+number_taken least greatest None h = tt
+number_taken least greatest (Some n) h = h n refl
+
+format_taken : (found : Option FileFormat) → OneValue takes.Format (option_map values.Format found)
+format_taken None = tt
+format_taken (Some f) = tt
+
+value_taken : (t : Takes) (text : List ℕ) → OneValue t (value_in t text)
+value_taken takes.Nothing text = tt
+value_taken (takes.Number least greatest) text =
+    number_taken least greatest (number_between least greatest text) (λ n h. number_within least greatest n text h)
+value_taken takes.Format text = format_taken (format_named text)
+
+one_taken : (option : OptionName) (t : Takes) (found : Option Value) → (option_row option).takes ≡ t → OneValue t found →
+    OneTaken (option_map (λ v. Given option v) found)
+one_taken option t None e h = tt
+one_taken option t (Some v) e h = subst (λ u. IsTaken u v) (sym e) h
+
+given_taken : (option : OptionName) (t : Takes) (text : List ℕ) → (option_row option).takes ≡ t → OneTaken (given option t text)
+given_taken option t text e = one_taken option t (value_in t text) e (value_taken t text)
 
 alone_taken : (item : Option Item) → OneTaken item → ReadTaken (option_map Alone item)
 alone_taken None h = tt
 alone_taken (Some item) h = h
 
-nothing_taken : (option : OptionName) → (option_row option).takes ≡ Nothing → IsTakenBy (Given option 0)
-nothing_taken option e = subst (λ takes. IsTaken takes 0) (sym e) tt
+nothing_taken : (option : OptionName) (rest : List ℕ) → (option_row option).takes ≡ takes.Nothing → ReadTaken (option_alone option rest)
+nothing_taken option [] e = subst (λ t. IsTaken t values.Nothing) (sym e) tt
+nothing_taken option (equals ∷ value) e = tt
 
-taking_taken : (option : OptionName) (takes : Takes) (rest : List ℕ) → (option_row option).takes ≡ takes → ReadTaken (option_taking option takes rest)
-taking_taken option Nothing [] e = nothing_taken option e
-taking_taken option Nothing (equals ∷ value) e = tt
-taking_taken option (Number least greatest) [] e = e
-taking_taken option (Number least greatest) (equals ∷ value) e =
-    alone_taken (given_number option least greatest value) (given_taken option least greatest value e)
+valued_taken : (option : OptionName) (t : Takes) (rest : List ℕ) → (option_row option).takes ≡ t → ReadTaken (option_valued option t rest)
+valued_taken option t [] e = e
+valued_taken option t (equals ∷ value) e = alone_taken (given option t value) (given_taken option t value e)
+
+taking_taken : (option : OptionName) (t : Takes) (rest : List ℕ) → (option_row option).takes ≡ t → ReadTaken (option_taking option t rest)
+taking_taken option takes.Nothing rest e = nothing_taken option rest e
+taking_taken option (takes.Number least greatest) rest e = valued_taken option (takes.Number least greatest) rest e
+taking_taken option takes.Format rest e = valued_taken option takes.Format rest e
 
 with_taken : (option : Option OptionName) (rest : List ℕ) → ReadTaken (option_with option rest)
 with_taken None rest = tt
@@ -126,14 +152,14 @@ plain_taken ((b ∷ bs) ∷ words) = front_taken (Some (Plain (b ∷ bs))) (all_
 last_taken : (r : Option Reading) → ReadTaken r → OneTaken (last_item r)
 last_taken None h = tt
 last_taken (Some (Alone item)) h = h
-last_taken (Some (Opens option least greatest)) h = tt
+last_taken (Some (Opens option t)) h = tt
 
 first_taken : (r : Option Reading) (next : List ℕ) (all others : Option (List Item)) → ReadTaken r → AllTaken all → AllTaken others →
     AllTaken (first_item r next all others)
 first_taken None next all others h k m = tt
 first_taken (Some (Alone item)) next all others h k m = front_taken (Some item) all h k
-first_taken (Some (Opens option least greatest)) next all others h k m =
-    front_taken (given_number option least greatest next) others (given_taken option least greatest next h) m
+first_taken (Some (Opens option t)) next all others h k m =
+    front_taken (given option t next) others (given_taken option t next h) m
 
 either : (b : Bool) (x y : Option (List Item)) → AllTaken x → AllTaken y → AllTaken (cond b x y)
 either true x y h k = h
@@ -151,27 +177,45 @@ items_taken options (word ∷ next ∷ words) =
 
 -- ---- commands
 
-head_small : (g d : ℕ) (numbers : List ℕ) → d ≤ g → ((n : ℕ) → slice_get numbers 0 ≡ Some n → n ≤ g) → unwrap_or (slice_get numbers 0) d ≤ g
-head_small g d [] h k = h
-head_small g d (n ∷ numbers) h k = k n refl
+-- a value that is a number is at most the greatest limit
+abbrev IsSmall : Value → Type 0
+IsSmall values.Nothing = Unit {0}
+IsSmall (values.Number n) = n ≤ greatest_limit
+IsSmall (values.Format f) = Unit {0}
 
-limit_small : (items : List Item) (n : ℕ) → AreTaken items → number_of Limit items ≡ Some n → n ≤ greatest_limit
-limit_small [] n h e = absurd (cc)
-limit_small (Plain word ∷ items) n h e = limit_small items n h.1 e
-limit_small (Given Limit number ∷ items) n h e = let s : number ≤ greatest_limit = h.0.1 in let same : number ≡ n = some_same e in omega arith
+abbrev AreSmall : List Value → Type 0
+AreSmall [] = Unit {0}
+AreSmall (v ∷ vs) = IsSmall v × AreSmall vs
+
+limit_small : (v : Value) → IsTaken (takes.Number 0 greatest_limit) v → IsSmall v
+limit_small values.Nothing h = tt
+limit_small (values.Number n) h = h.1
+limit_small (values.Format f) h = tt
+
+limits_small : (items : List Item) → AreTaken items → AreSmall (values_of options.Limit items)
+limits_small [] h = tt
+limits_small (Plain word ∷ items) h = limits_small items h.1
+limits_small (Given options.Limit v ∷ items) h = (limit_small v h.0, limits_small items h.1)
+limits_small (Given options.Format v ∷ items) h = limits_small items h.1
+
+head_small : (vs : List Value) → AreSmall vs → number_or default_limit (slice_get vs 0) ≤ greatest_limit
+head_small [] h = omega arith
+head_small (values.Nothing ∷ vs) h = omega arith
+head_small (values.Number n ∷ vs) h = h.0
+head_small (values.Format f ∷ vs) h = omega arith
 
 abbrev OneInRange : Option Command → Type 0
 OneInRange None = Unit {0}
 OneInRange (Some command) = IsInRange command
 
-solve_in_range : (file : Option (List ℕ)) (limit : ℕ) → limit ≤ greatest_limit → OneInRange (option_map (λ f. Solve f limit) file)
-solve_in_range None limit h = tt
-solve_in_range (Some file) limit h = h
+solve_in_range : (file : Option (List ℕ)) (lp : List ℕ → Bool) (limit : ℕ) → limit ≤ greatest_limit → OneInRange (option_map (λ f. Solve f (lp f) limit) file)
+solve_in_range None lp limit h = tt
+solve_in_range (Some file) lp limit h = h
 
 asked_in_range : (name : CommandName) (items : List Item) → AreTaken items → OneInRange (asked_by name items)
 asked_in_range names.Solve items h =
-    solve_in_range (word_at 0 items) (unwrap_or (number_of Limit items) default_limit)
-    (head_small greatest_limit default_limit (numbers_of Limit items) (omega arith) (λ n e. limit_small items n h e))
+    solve_in_range (word_at 0 items) (λ f. lp_or f (first_value options.Format items)) (number_or default_limit (first_value options.Limit items))
+    (head_small (values_of options.Limit items) (limits_small items h))
 
 by_in_range : (name : CommandName) (items : List Item) → AreTaken items → OneInRange (command_by name items)
 by_in_range name items h = go (are_for (command_row name) items)

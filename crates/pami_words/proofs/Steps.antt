@@ -12,7 +12,7 @@ use Rattle.pami_words.specs.declared.item.Reading.TheVariants.{Alone, Opens}
 use Rattle.pami_words.specs.declared.table.CommandName.{CommandName}
 use Rattle.pami_words.specs.declared.table.OptionName.{OptionName}
 use Rattle.pami_words.specs.Table.{commands, command_row, command_named}
-use Rattle.pami_words.specs.Items.{or_bad, is_end, given_number, reading_of, in_front, all_plain, last_item, first_item, items_of}
+use Rattle.pami_words.specs.Items.{or_bad, is_end, given, reading_of, in_front, all_plain, last_item, first_item, items_of}
 use Rattle.pami_words.specs.Fronts.{with_words, front, behind}
 use Rattle.pami_words.specs.Words.{command_by, command_of, read_outcome}
 
@@ -46,7 +46,7 @@ goes_on options (Some (item, words)) = in_front (Some item) (items_of options wo
 last_is : (options : List OptionName) (r : Option Reading) → in_front (last_item r) (Some []) ≡ goes_on options (front r [])
 last_is options None = refl
 last_is options (Some (Alone item)) = refl
-last_is options (Some (Opens option least greatest)) = refl
+last_is options (Some (Opens option takes)) = refl
 
 given_is : (options : List OptionName) (words : List (List ℕ)) (item : Option Item) →
     in_front item (items_of options words) ≡ goes_on options (with_words words item)
@@ -57,7 +57,7 @@ first_is : (options : List OptionName) (next : List ℕ) (words : List (List ℕ
     first_item r next (items_of options (next ∷ words)) (items_of options words) ≡ goes_on options (front r (next ∷ words))
 first_is options next words None = refl
 first_is options next words (Some (Alone item)) = refl
-first_is options next words (Some (Opens option least greatest)) = given_is options words (given_number option least greatest next)
+first_is options next words (Some (Opens option takes)) = given_is options words (given option takes next)
 
 items_are : (options : List OptionName) (word : List ℕ) (later : List (List ℕ)) → is_end word ≡ false →
     items_of options (word ∷ later) ≡ goes_on options (front (reading_of options word) later)

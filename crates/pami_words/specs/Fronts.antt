@@ -4,7 +4,7 @@ use Rattle.pami_words.specs.declared.item.Item.{Item}
 use Rattle.pami_words.specs.declared.item.Reading.{Reading}
 use Rattle.pami_words.specs.declared.item.Reading.TheVariants.{Alone, Opens}
 use Rattle.pami_words.specs.declared.table.OptionName.{OptionName}
-use Rattle.pami_words.specs.Items.{given_number, reading_of}
+use Rattle.pami_words.specs.Items.{given, reading_of}
 
 -- an item, and the words behind it
 abbrev pub with_words : List (List ℕ) → Option Item → Option (Item × List (List ℕ))
@@ -14,8 +14,8 @@ with_words words item = option_map (λ i. (i, words)) item
 abbrev pub front : Option Reading → List (List ℕ) → Option (Item × List (List ℕ))
 front None later = None
 front (Some (Alone item)) later = Some (item, later)
-front (Some (Opens option least greatest)) [] = None
-front (Some (Opens option least greatest)) (next ∷ words) = with_words words (given_number option least greatest next)
+front (Some (Opens option takes)) [] = None
+front (Some (Opens option takes)) (next ∷ words) = with_words words (given option takes next)
 
 -- the item at the front of a word and those behind it
 abbrev pub item_at_front : List OptionName → List ℕ → List (List ℕ) → Option (Item × List (List ℕ))

@@ -1,6 +1,6 @@
--- What the words behind a command are: plain words, and options with their numbers, in any order.
+-- What the words behind a command are: plain words, and options with their values, in any order.
 --
--- An option and its number are two words, or one word with `=` between them. Behind the word `--` all words are plain.
+-- An option and its value are two words, or one word with `=` between them. Behind the word `--` all words are plain.
 -- Nothing is abbreviated.
 use Rattle.std.specs.Prelude.{ℕ, Bool, true, false, List, [], ◌∷◌, Option, None, Some, option_map, Result, Ok, Err, codes, if◌then◌else◌, nat_eq}
 use Rattle.std.specs.Str.{bytes_eq}
@@ -12,9 +12,10 @@ use Rattle.pami_words.specs.declared.item.Reading.{Reading}
 use Rattle.pami_words.specs.declared.item.Reading.TheVariants.{Alone, Opens}
 use Rattle.pami_words.specs.declared.table.OptionName.{OptionName}
 use Rattle.pami_words.specs.declared.table.Takes.{Takes}
-use Rattle.pami_words.specs.declared.table.Takes.TheVariants.{Nothing, Number}
+use Rattle.pami_words.specs.declared.table.Takes.TheVariants.{Nothing, Number, Format}
+use Rattle.pami_words.specs.declared.value.Value.TheVariants as values
 use Rattle.pami_words.specs.Table.{option_row, option_named}
-use Rattle.pami_words.specs.Numbers.{number_between}
+use Rattle.pami_words.specs.Values.{value_in}
 
 -- bad words where there is no value
 abbrev pub or_bad : {A : Type 0} → Option A → Result A BadWords
@@ -37,18 +38,24 @@ is_equals byte = nat_eq byte 61
 
 -- ---- one word by itself
 
--- an option with the number that a text writes
-abbrev pub given_number : OptionName → ℕ → ℕ → List ℕ → Option Item
-given_number option least greatest text = option_map (λ n. Given option n) (number_between least greatest text)
+-- an option that takes this, with the value that a text gives it
+abbrev pub given : OptionName → Takes → List ℕ → Option Item
+given option takes text = option_map (λ v. Given option v) (value_in takes text)
 
--- an option that takes this, with what stands behind its word: nothing, or `=` and a value. One without a number counts
--- as given 0
+-- an option that takes a value, with what stands behind its word: nothing, or `=` and a value
+abbrev pub option_valued : OptionName → Takes → List ℕ → Option Reading
+option_valued option takes [] = Some (Opens option takes)
+option_valued option takes (equals ∷ value) = option_map Alone (given option takes value)
+
+-- one that takes none
+abbrev pub option_alone : OptionName → List ℕ → Option Reading
+option_alone option [] = Some (Alone (Given option values.Nothing))
+option_alone option (equals ∷ value) = None
+
 abbrev pub option_taking : OptionName → Takes → List ℕ → Option Reading
-option_taking option Nothing [] = Some (Alone (Given option 0))
-option_taking option Nothing (equals ∷ value) = None
-option_taking option (Number least greatest) [] = Some (Opens option least greatest)
-option_taking option (Number least greatest) (equals ∷ value) =
-    option_map Alone (given_number option least greatest value)
+option_taking option Nothing behind = option_alone option behind
+option_taking option (Number least greatest) behind = option_valued option (Number least greatest) behind
+option_taking option Format behind = option_valued option Format behind
 
 abbrev pub option_with : Option OptionName → List ℕ → Option Reading
 option_with None behind = None
@@ -80,14 +87,13 @@ all_plain ((b ∷ bs) ∷ words) = in_front (Some (Plain (b ∷ bs))) (all_plain
 abbrev pub last_item : Option Reading → Option Item
 last_item None = None
 last_item (Some (Alone item)) = Some item
-last_item (Some (Opens option least greatest)) = None
+last_item (Some (Opens option takes)) = None
 
--- a word's item in front of those of all words behind it; or, where the next word is its number, of those behind both
+-- a word's item in front of those of all words behind it; or, where the next word is its value, of those behind both
 abbrev pub first_item : Option Reading → List ℕ → Option (List Item) → Option (List Item) → Option (List Item)
 first_item None next behind behind_next = None
 first_item (Some (Alone item)) next behind behind_next = in_front (Some item) behind
-first_item (Some (Opens option least greatest)) next behind behind_next =
-    in_front (given_number option least greatest next) behind_next
+first_item (Some (Opens option takes)) next behind behind_next = in_front (given option takes next) behind_next
 
 -- the items of the words behind a command that has these options
 abbrev pub items_of : List OptionName → List (List ℕ) → Option (List Item)

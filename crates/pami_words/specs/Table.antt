@@ -5,9 +5,9 @@ pub use Rattle.pami_method.specs.Walk.{greatest_limit}
 use Rattle.pami_words.specs.declared.table.CommandName.{CommandName}
 use Rattle.pami_words.specs.declared.table.CommandName.TheVariants.{Solve}
 use Rattle.pami_words.specs.declared.table.OptionName.{OptionName}
-use Rattle.pami_words.specs.declared.table.OptionName.TheVariants.{Limit}
+use Rattle.pami_words.specs.declared.table.OptionName.TheVariants.{Limit, Format}
 use Rattle.pami_words.specs.declared.table.Takes.{Takes}
-use Rattle.pami_words.specs.declared.table.Takes.TheVariants.{Number}
+use Rattle.pami_words.specs.declared.table.Takes.TheVariants as takes
 
 -- the limit of pivots where none is given
 abbrev pub default_limit : ℕ
@@ -32,11 +32,12 @@ commands = Solve ∷ []
 
 -- the row of a command
 abbrev pub command_row : CommandName → CommandRow
-command_row Solve = record { word = codes "solve"; plain = 1; options = Limit ∷ [] }
+command_row Solve = record { word = codes "solve"; plain = 1; options = Format ∷ Limit ∷ [] }
 
 -- the row of an option
 abbrev pub option_row : OptionName → OptionRow
-option_row Limit = record { word = codes "--limit"; takes = Number 0 greatest_limit }
+option_row Format = record { word = codes "--format"; takes = takes.Format }
+option_row Limit = record { word = codes "--limit"; takes = takes.Number 0 greatest_limit }
 
 -- ---- rows by their words
 

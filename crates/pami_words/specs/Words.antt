@@ -2,8 +2,8 @@
 --
 -- The first word is the command, whole. The words behind it are read as items, and the items are then judged: how many
 -- plain words the command takes, and which options, each at most once. No word asks for help or the version.
-use Rattle.std.specs.Prelude.{ℕ, ◌≤◌, Bool, true, ◌&&◌, List, [], ◌∷◌, length, Option, None, option_map, option_and_then, Result, if◌then◌else◌, nat_eq, nat_le, slice_get}
-use Rattle.std.specs.Option.{unwrap_or}
+use Rattle.std.specs.Prelude.{ℕ, ◌-◌, ◌≤◌, Bool, true, ◌&&◌, List, [], ◌∷◌, length, drop, codes, Option, None, Some, option_map, option_and_then, Result, if◌then◌else◌, nat_eq, nat_le, slice_get}
+use Rattle.std.specs.Str.{str_eq_ignore_ascii_case}
 use Rattle.pami_words.specs.declared.command.BadWords.{BadWords}
 use Rattle.pami_words.specs.declared.command.Command.{Command}
 use Rattle.pami_words.specs.declared.command.Command.TheVariants.{Solve}
@@ -12,7 +12,10 @@ use Rattle.pami_words.specs.declared.item.Item.TheVariants.{Plain, Given}
 use Rattle.pami_words.specs.declared.table.CommandName.{CommandName}
 use Rattle.pami_words.specs.declared.table.CommandName.TheVariants as names
 use Rattle.pami_words.specs.declared.table.OptionName.{OptionName}
-use Rattle.pami_words.specs.declared.table.OptionName.TheVariants.{Limit}
+use Rattle.pami_words.specs.declared.table.OptionName.TheVariants as options
+use Rattle.pami_words.specs.declared.value.Value.{Value}
+use Rattle.pami_words.specs.declared.value.Value.TheVariants.{Nothing, Number, Format}
+use Rattle.pami_words.specs.Values.{is_lp}
 use Rattle.pami_words.specs.Table.{CommandRow, commands, command_row, command_named, is_option, default_limit, greatest_limit}
 use Rattle.pami_words.specs.Items.{or_bad, items_of}
 
@@ -22,36 +25,56 @@ use Rattle.pami_words.specs.Items.{or_bad, items_of}
 abbrev pub plain_words : List Item → List (List ℕ)
 plain_words [] = []
 plain_words (Plain word ∷ items) = word ∷ plain_words items
-plain_words (Given option number ∷ items) = plain_words items
+plain_words (Given option value ∷ items) = plain_words items
 
--- the numbers that an option is given
-abbrev pub numbers_of : OptionName → List Item → List ℕ
-numbers_of option [] = []
-numbers_of option (Plain word ∷ items) = numbers_of option items
-numbers_of option (Given other number ∷ items) =
-    if is_option option other then number ∷ numbers_of option items else numbers_of option items
+-- the values that an option is given
+abbrev pub values_of : OptionName → List Item → List Value
+values_of option [] = []
+values_of option (Plain word ∷ items) = values_of option items
+values_of option (Given other value ∷ items) =
+    if is_option option other then value ∷ values_of option items else values_of option items
 
 -- each of these options is given at most once
 abbrev pub are_once : List OptionName → List Item → Bool
 are_once [] items = true
-are_once (option ∷ options) items = nat_le (length (numbers_of option items)) 1 && are_once options items
+are_once (option ∷ options) items = nat_le (length (values_of option items)) 1 && are_once options items
 
 -- the items are those of the row: as many plain words as it takes, and none of its options twice
 abbrev pub are_for : CommandRow → List Item → Bool
 are_for row items = nat_eq (length (plain_words items)) row.plain && are_once row.options items
 
--- the plain word at this place among them, and the first number that an option is given
+-- the plain word at this place among them, and the first value that an option is given
 abbrev pub word_at : ℕ → List Item → Option (List ℕ)
 word_at place items = slice_get (plain_words items) place
 
-abbrev pub number_of : OptionName → List Item → Option ℕ
-number_of option items = slice_get (numbers_of option items) 0
+abbrev pub first_value : OptionName → List Item → Option Value
+first_value option items = slice_get (values_of option items) 0
 
 -- ---- commands
 
--- `solve` takes FILE and the limit of pivots
+-- the number that is given, or this one
+abbrev pub number_or : ℕ → Option Value → ℕ
+number_or default None = default
+number_or default (Some Nothing) = default
+number_or default (Some (Number number)) = number
+number_or default (Some (Format format)) = default
+
+-- the name ends in `.lp`, in letters of any case
+abbrev pub is_lp_name : List ℕ → Bool
+is_lp_name name = str_eq_ignore_ascii_case (drop (length name - 3) name) (codes ".lp")
+
+-- the format that is given, or that of the name
+abbrev pub lp_or : List ℕ → Option Value → Bool
+lp_or name None = is_lp_name name
+lp_or name (Some Nothing) = is_lp_name name
+lp_or name (Some (Number number)) = is_lp_name name
+lp_or name (Some (Format format)) = is_lp format
+
+-- `solve` takes FILE, its format and the limit of pivots
 abbrev pub solve_asked : List Item → Option Command
-solve_asked items = option_map (λ file. Solve file (unwrap_or (number_of Limit items) default_limit)) (word_at 0 items)
+solve_asked items =
+    option_map (λ file. Solve file (lp_or file (first_value options.Format items)) (number_or default_limit (first_value options.Limit items)))
+    (word_at 0 items)
 
 -- what a command is asked by the items of its row
 abbrev pub asked_by : CommandName → List Item → Option Command
@@ -70,4 +93,4 @@ read_outcome (word ∷ words) = or_bad (option_and_then (command_of words) (comm
 
 -- what is asked is in its range
 abbrev pub IsInRange : Command → Type 0
-IsInRange (Solve file limit) = limit ≤ greatest_limit
+IsInRange (Solve file lp limit) = limit ≤ greatest_limit

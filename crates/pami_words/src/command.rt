@@ -7,8 +7,9 @@ use thiserror::Error;
 /// A command with what it is given.
 #[derive(Debug, Drop)]
 pub enum Command {
-    /// Solve the model of FILE with at most `limit` pivots.
-    Solve { file: Word, limit: u32 },
+    /// Solve the model of FILE, which is in the CPLEX LP format where `lp` says so and else in MPS, with at most `limit`
+    /// pivots.
+    Solve { file: Word, lp: bool, limit: u32 },
 }
 
 /// The words stand in no row of the table.

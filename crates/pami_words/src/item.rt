@@ -6,28 +6,24 @@ ghost use Rattle.pami_frac.specs.Answers.{FollowsBy};
 ghost use Rattle.pami_words.specs.Items as words;
 
 use crate::command::BadWords;
-use crate::number::number_between;
 use crate::table::{OptionName, Takes};
+use crate::value::{Value, value_in};
 use pami_edge::Word;
 use pami_frac::Fault;
 use std::alloc::Global;
 
-/// A plain word, or an option with its number.
+/// A plain word, or an option with its value.
 #[derive(Debug, Drop)]
 pub enum Item {
     Plain(Word),
-    Given(OptionName, u32),
+    Given(OptionName, Value),
 }
 
-/// What a word is by itself: an item, or an option whose number is the next word.
+/// What a word is by itself: an item, or an option whose value is the next word.
 #[derive(Debug, Drop)]
 pub enum Reading {
     Alone(Item),
-    Opens {
-        option: OptionName,
-        least: u32,
-        greatest: u32,
-    },
+    Opens { option: OptionName, takes: Takes },
 }
 
 /// Whether the word is plain: not empty, and without a dash in front unless it is the dash alone.
@@ -53,30 +49,48 @@ fn equals_place(word: &[u8]) -> usize
     word.len()
 }
 
-/// An option with the number that a text writes, if it is in this range.
-pub fn given_number(option: OptionName, least: u32, greatest: u32, text: &[u8]) -> Option<Item>
-    ensures { result ≡ words.given_number option least greatest text.now }
+/// An option that takes this, with the value that a text gives it.
+pub fn given(option: OptionName, takes: Takes, text: &[u8]) -> Option<Item>
+    ensures { result ≡ words.given option takes text.now }
 {
-    let number = number_between(text, least, greatest)?;
-    Some(Item::Given(option, number))
+    let value = value_in(takes, text)?;
+    Some(Item::Given(option, value))
 }
 
-/// An option that takes this, with what stands behind its word: nothing, or `=` and a value.
+/// An option that takes a value, with what stands behind its word: nothing, or `=` and a value.
+fn option_valued(option: OptionName, takes: Takes, behind: &[u8]) -> Option<Reading>
+    ensures { result ≡ words.option_valued option takes behind.now }
+{
+    match behind {
+        [] => Some(Reading::Opens { option, takes }),
+        [_, value @ ..] => {
+            let item = given(option, takes, value)?;
+            Some(Reading::Alone(item))
+        }
+    }
+}
+
+/// An option that takes no value, with what stands behind its word: nothing.
+fn option_alone(option: OptionName, behind: &[u8]) -> Option<Reading>
+    ensures { result ≡ words.option_alone option behind.now }
+{
+    match behind {
+        [] => Some(Reading::Alone(Item::Given(option, Value::Nothing))),
+        _ => None,
+    }
+}
+
+/// An option that takes this, with what stands behind its word.
 pub fn option_taking(option: OptionName, takes: Takes, behind: &[u8]) -> Option<Reading>
     ensures { result ≡ words.option_taking option takes behind.now }
 {
-    match (takes, behind) {
-        (Takes::Nothing, []) => Some(Reading::Alone(Item::Given(option, 0))),
-        (Takes::Nothing, _) => None,
-        (Takes::Number { least, greatest }, []) => Some(Reading::Opens {
-            option,
-            least,
-            greatest,
-        }),
-        (Takes::Number { least, greatest }, [_, value @ ..]) => {
-            let item = given_number(option, least, greatest, value)?;
-            Some(Reading::Alone(item))
-        }
+    match takes {
+        Takes::Nothing => option_alone(option, behind),
+        Takes::Number {
+            least: _,
+            greatest: _,
+        } => option_valued(option, takes, behind),
+        Takes::Format => option_valued(option, takes, behind),
     }
 }
 

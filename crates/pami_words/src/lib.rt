@@ -10,7 +10,7 @@
 //! /// How many pivots the words allow.
 //! fn pivots_allowed(alloc: Global, words: &[Word]) -> Result<u32, Fault<BadWords>> {
 //!     match read_words(alloc, words)? {
-//!         Command::Solve { file: _, limit } => Ok(limit),
+//!         Command::Solve { file: _, lp: _, limit } => Ok(limit),
 //!     }
 //! }
 //! ```
@@ -21,6 +21,7 @@ mod item;
 mod number;
 mod read;
 mod table;
+mod value;
 
 pub use command::{BadWords, Command};
 pub use read::read_words;

@@ -1,24 +1,44 @@
 //! The reading of all words.
 
-ghost use Rattle.std.specs.Prelude.{◌≡◌, ◌≤◌, length, option_map, IfOk};
+ghost use Rattle.std.specs.Prelude.{◌≡◌, ◌≤◌, length, option_map, IfOk, Some};
 ghost use Rattle.pami_frac.specs.Answers.{FollowsBy};
 ghost use Rattle.pami_words.specs.Items.{all_plain, items_of, or_bad};
-ghost use Rattle.pami_words.specs.Fronts.{item_at_front, behind};
+ghost use Rattle.pami_words.specs.declared.item.Reading.TheVariants.{Opens};
+ghost use Rattle.pami_words.specs.Fronts.{item_at_front, front, behind};
 ghost use Rattle.pami_words.specs.Words as asked;
 
 use crate::command::{BadWords, Command};
-use crate::item::{Item, Reading, given_number, reading_of};
-use crate::table::{CommandName, DEFAULT_LIMIT, OptionName};
+use crate::item::{Item, Reading, given, reading_of};
+use crate::table::{CommandName, DEFAULT_LIMIT, OptionName, Takes};
+use crate::value::Value;
 use pami_edge::Word;
 use pami_frac::Fault;
 use std::alloc::Global;
+
+/// An option with the first of these words as its value, and the words behind that one.
+fn opened<'a>(
+    option: OptionName,
+    takes: Takes,
+    later: &'a [Word],
+) -> Result<(Item, &'a [Word]), Fault<BadWords>>
+    ensures item { FollowsBy (λ r. (r.0, r.1.now)) (or_bad (front (Some (Opens option takes)) later.now)) result }
+    ensures shorter { IfOk result (λ r. length r.1.now ≤ length later.now) }
+{
+    match later {
+        [next, behind @ ..] => {
+            let item = given(option, takes, next.as_slice()).ok_or(BadWords)?;
+            Ok((item, behind))
+        }
+        [] => Err(Fault::Named(BadWords)),
+    }
+}
 
 /// The item at the front of a word and those behind it, and the words behind the item.
 ///
 /// # Errors
 ///
-/// `Named` exactly where the word is no item and opens none, or the next word isn't there or is no number in the
-/// option's range. `OutOfMemory` where memory runs out.
+/// `Named` exactly where the word is no item and opens none, or the next word isn't there or is no value of the
+/// option. `OutOfMemory` where memory runs out.
 fn front_item<'a>(
     alloc: Global,
     options: &[OptionName],
@@ -30,17 +50,7 @@ fn front_item<'a>(
 {
     match reading_of(alloc, options, word)? {
         Reading::Alone(item) => Ok((item, later)),
-        Reading::Opens {
-            option,
-            least,
-            greatest,
-        } => {
-            let [next, behind @ ..] = later else {
-                return Err(Fault::Named(BadWords));
-            };
-            let item = given_number(option, least, greatest, next.as_slice()).ok_or(BadWords)?;
-            Ok((item, behind))
-        }
+        Reading::Opens { option, takes } => opened(option, takes, later),
     }
 }
 
@@ -118,7 +128,7 @@ fn word_at(items: &[Item], place: usize) -> Option<&Word>
 
 /// How often the option is given.
 fn count_of(items: &[Item], option: OptionName) -> usize
-    ensures { result ≡ length (asked.numbers_of option items.now) }
+    ensures { result ≡ length (asked.values_of option items.now) }
 {
     let mut count = 0;
     for item in items {
@@ -131,18 +141,50 @@ fn count_of(items: &[Item], option: OptionName) -> usize
     count
 }
 
-/// The first number that the option is given.
-fn number_of(items: &[Item], option: OptionName) -> Option<u32>
-    ensures { result ≡ asked.number_of option items.now }
+/// The first value that the option is given.
+fn first_value(items: &[Item], option: OptionName) -> Option<Value>
+    ensures { result ≡ asked.first_value option items.now }
 {
     for item in items {
-        if let Item::Given(other, number) = item
+        if let Item::Given(other, value) = item
             && option.is(*other)
         {
-            return Some(*number);
+            return Some(*value);
         }
     }
     None
+}
+
+/// The number that is given, or this one.
+fn number_or(default: u32, given: Option<Value>) -> u32
+    ensures { result ≡ asked.number_or default given }
+{
+    match given {
+        Some(Value::Number(number)) => number,
+        Some(Value::Format(_)) => default,
+        Some(Value::Nothing) => default,
+        None => default,
+    }
+}
+
+/// Whether the name ends in `.lp`, in letters of any case.
+fn is_lp_name(name: &[u8]) -> bool
+    ensures { result ≡ asked.is_lp_name name.now }
+{
+    let ending = name.len().saturating_sub(3);
+    name[ending..].eq_ignore_ascii_case(b".lp")
+}
+
+/// Whether the format that is given, or that of the name, is LP.
+fn lp_or(name: &[u8], given: Option<Value>) -> bool
+    ensures { result ≡ asked.lp_or name.now given }
+{
+    match given {
+        Some(Value::Format(format)) => format.is_lp(),
+        Some(Value::Number(_)) => is_lp_name(name),
+        Some(Value::Nothing) => is_lp_name(name),
+        None => is_lp_name(name),
+    }
 }
 
 /// Whether each of these options is given at most once.
@@ -168,7 +210,8 @@ fn solve_asked(alloc: Global, items: &[Item]) -> Result<Command, Fault<BadWords>
     let file = word_at(items, 0).ok_or(BadWords)?;
     Ok(Command::Solve {
         file: file.copy(alloc)?,
-        limit: number_of(items, OptionName::Limit).unwrap_or(DEFAULT_LIMIT),
+        lp: lp_or(file.as_slice(), first_value(items, OptionName::Format)),
+        limit: number_or(DEFAULT_LIMIT, first_value(items, OptionName::Limit)),
     })
 }
 

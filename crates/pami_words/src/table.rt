@@ -17,6 +17,7 @@ pub enum CommandName {
 /// An option, by its word.
 #[derive(Clone, Copy, Debug, PartialEq, Eq)]
 pub enum OptionName {
+    Format,
     Limit,
 }
 
@@ -27,13 +28,15 @@ pub enum Takes {
     Nothing,
     /// A number in this range.
     Number { least: u32, greatest: u32 },
+    /// The name of a format of model files, `mps` or `lp`.
+    Format,
 }
 
 /// All commands.
 const COMMANDS: [CommandName; 1] = [CommandName::Solve];
 
 /// The options of `solve`.
-const SOLVE_OPTIONS: [OptionName; 1] = [OptionName::Limit];
+const SOLVE_OPTIONS: [OptionName; 2] = [OptionName::Format, OptionName::Limit];
 
 impl CommandName {
     /// The first word of a call.
@@ -89,6 +92,7 @@ impl OptionName {
         ensures { result.now ≡ (table.option_row self).word }
     {
         match self {
+            OptionName::Format => b"--format",
             OptionName::Limit => b"--limit",
         }
     }
@@ -98,6 +102,7 @@ impl OptionName {
         ensures { result ≡ (table.option_row self).takes }
     {
         match self {
+            OptionName::Format => Takes::Format,
             OptionName::Limit => Takes::Number {
                 least: 0,
                 greatest: GREATEST_LIMIT,

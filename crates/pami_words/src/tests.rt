@@ -4,6 +4,7 @@ use super::*;
 use crate::item::{Item, Reading, option_taking};
 use crate::number::number_between;
 use crate::table::{OptionName, Takes};
+use crate::value::Value;
 use pami_edge::Word;
 use pami_frac::Fault;
 use std::alloc::Global;
@@ -20,7 +21,11 @@ fn words(alloc: Global, texts: &[&str]) -> Result<Vec<Word>, Fail> {
 /// The caller that the crate's head shows.
 fn pivots_allowed(alloc: Global, words: &[Word]) -> Result<u32, Fault<BadWords>> {
     match read_words(alloc, words)? {
-        Command::Solve { file: _, limit } => Ok(limit),
+        Command::Solve {
+            file: _,
+            lp: _,
+            limit,
+        } => Ok(limit),
     }
 }
 
@@ -64,6 +69,7 @@ fn words_of_solve(rt: HostRuntime) -> Result<(), Fail> {
         let Ok(
             Command::Solve {
                 file: name,
+                lp: _,
                 limit: most,
             },
         ) = read_words(alloc, words.as_slice())
@@ -77,9 +83,47 @@ fn words_of_solve(rt: HostRuntime) -> Result<(), Fail> {
 }
 
 #[test]
+fn formats_of_solve(rt: HostRuntime) -> Result<(), Fail> {
+    let alloc = rt.alloc();
+    let rows: [(&[&str], bool); 16] = [
+        (&["solve", "m.mps"], false),
+        (&["solve", "m.lp"], true),
+        (&["solve", "M.LP"], true),
+        (&["solve", "a.mps.Lp"], true),
+        (&["solve", ".lp"], true),
+        (&["solve", "lp"], false),
+        (&["solve", "m.lp.gz"], false),
+        (&["solve", "m_lp"], false),
+        (&["solve", "-"], false),
+        (&["solve", "m.lp", "--format", "mps"], false),
+        (&["solve", "m.lp", "--format=mps"], false),
+        (&["solve", "--format", "lp", "m.mps"], true),
+        (&["solve", "--format=lp", "m"], true),
+        (&["solve", "--format=lp", "--limit=3", "m"], true),
+        (&["solve", "--limit", "3", "--format", "mps", "m.lp"], false),
+        (&["solve", "--", "--format=mps.lp"], true),
+    ];
+    for (texts, format) in rows {
+        let words = words(alloc, texts)?;
+        let Ok(
+            Command::Solve {
+                file: _,
+                lp,
+                limit: _,
+            },
+        ) = read_words(alloc, words.as_slice())
+        else {
+            return Err(Fail::from("words of the table"));
+        };
+        assert_eq!(rt; lp, format);
+    }
+    Ok(())
+}
+
+#[test]
 fn words_outside_the_table(rt: HostRuntime) -> Result<(), Fail> {
     let alloc = rt.alloc();
-    let rows: [&[&str]; 51] = [
+    let rows: [&[&str]; 60] = [
         &[],
         &["solve"],
         &["m.mps"],
@@ -127,6 +171,16 @@ fn words_outside_the_table(rt: HostRuntime) -> Result<(), Fail> {
         &["solve", "m.mps", "--limit=1000001"],
         &["solve", "m.mps", "--limit", "4294967301"],
         &["solve", "m.mps", "--limit", "9999999999"],
+        // The format: none, twice, another word, or in capitals.
+        &["solve", "m.lp", "--format"],
+        &["solve", "m.lp", "--format="],
+        &["solve", "--format", "m.lp"],
+        &["solve", "m.lp", "--format", "LP"],
+        &["solve", "m.lp", "--format=free"],
+        &["solve", "m.lp", "--format", "lp", "--format", "lp"],
+        &["solve", "m.lp", "--format=mps", "--format=lp"],
+        &["solve", "m.lp", "--format", "-lp"],
+        &["solve", "m.lp", "--form=lp"],
         // No abbreviations, and no other options.
         &["solve", "m.mps", "--lim", "5"],
         &["solve", "m.mps", "--limits", "5"],
@@ -151,7 +205,7 @@ fn flags_and_ranges(rt: HostRuntime) -> Result<(), Fail> {
     assert!(rt;
         matches!(
             flag,
-            Some(Reading::Alone(Item::Given(OptionName::Limit, 0)))
+            Some(Reading::Alone(Item::Given(OptionName::Limit, Value::Nothing)))
         )
     );
     for value in [b"=".as_slice(), b"=1".as_slice()] {
