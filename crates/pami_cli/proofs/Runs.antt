@@ -1,6 +1,6 @@
 -- What a call has to write, and that it is one text.
 use Rattle.std.proofs.lemmas.List.{length-replicate}
-use Rattle.std.proofs.Common.{suc, ◌≡◌, ℕ, ◌<◌, ◌⊎◌, inl, inr, List, length, Option, None, Some, Result, Ok, Err, refl, sym, ap, ◌∙◌, subst, arith, replicate}
+use Rattle.std.proofs.Common.{suc, ◌≡◌, ℕ, ◌<◌, ◌⊎◌, inl, inr, Bool, List, length, Option, None, Some, Result, Ok, Err, refl, sym, ap, ◌∙◌, subst, arith, replicate}
 use Rattle.std.specs.Result.{IfOk, OnErr}
 use Rattle.pami_frac.specs.declared.fault.OutOfMemory.{OutOfMemory}
 use Rattle.pami_edge.specs.Outside.{Files, HasFile, HasLongFile}
@@ -15,7 +15,7 @@ use Rattle.pami_cli.specs.declared.status.Status.{Status}
 use Rattle.pami_cli.specs.declared.status.Status.TheVariants as statuses
 use Rattle.pami_cli.specs.declared.answer.Answer.{Answer}
 use Rattle.pami_cli.specs.Text.{refused_text}
-use Rattle.pami_cli.specs.Reading.{Format, AsMps, IsTextOf, IsFirstFaultOf, format_in}
+use Rattle.pami_cli.specs.Reading.{Format, format_by, IsTextOf, IsFirstFaultOf}
 use Rattle.pami_cli.specs.Answer.{AnswersModel, AnswersWide}
 use Rattle.pami_cli.specs.Run.{Answers, IsModelAnswer, IsRefused, Refuses, WaitsForPhaseOne, IsFileRefused, IsAnswered, IsDue, IsWrittenBy, IsComplete, Call, AskFor, AreBad, Ends, IsOrFault}
 use Rattle.pami_cli.proofs.Answers.{one_model_answer, refused_model_is_wide, model_waits}
@@ -25,10 +25,11 @@ some_same : {A : Type 0} {x y : A} → Some x ≡ Some y → x ≡ y
 some_same e = cc
 
 -- words ask for one thing, and not as well for nothing
-same_asked : {file other : List ℕ} {limit most : ℕ} → ◌≡◌ {A = Result Command BadWords} (Ok (Solve file limit)) (Ok (Solve other most)) → (file ≡ other) × (limit ≡ most)
-same_asked e = (cc, cc)
+same_asked : {file other : List ℕ} {lp format : Bool} {limit most : ℕ} → ◌≡◌ {A = Result Command BadWords} (Ok (Solve file lp limit)) (Ok (Solve other format most))
+    → (file ≡ other) × ((lp ≡ format) × (limit ≡ most))
+same_asked e = (cc, (cc, cc))
 
-bad_asked : {bad : BadWords} {file : List ℕ} {limit : ℕ} → ◌≡◌ {A = Result Command BadWords} (Err bad) (Ok (Solve file limit)) → ⊥
+bad_asked : {bad : BadWords} {file : List ℕ} {lp : Bool} {limit : ℕ} → ◌≡◌ {A = Result Command BadWords} (Err bad) (Ok (Solve file lp limit)) → ⊥
 bad_asked e = cc
 
 -- a model's answer is that of its text
@@ -54,14 +55,14 @@ long_file format None name h = let long = long_list byte_limit in (long.0, (tt, 
 long_file format (Some files) name h = (h.0, (h.1, long_first format h.0 h.2))
 
 -- a call ends with what it wrote of an answer
-module _ (k : Call) (result : Status) (file : List ℕ) (limit : ℕ) (asks : AskFor k.words file limit) where
-  pub ends_answered : (bytes : List ℕ) (s : Status) (t : List ℕ) → HasFile k.shelf.files file bytes → Answers (format_in k.words) bytes limit s t
+module _ (k : Call) (result : Status) (file : List ℕ) (lp : Bool) (limit : ℕ) (asks : AskFor k.words file lp limit) where
+  pub ends_answered : (bytes : List ℕ) (s : Status) (t : List ℕ) → HasFile k.shelf.files file bytes → Answers (format_by lp) bytes limit s t
       → IsWrittenBy k.sink result s t → Ends k result
   ends_answered bytes s t h a w =
-      inr (record { due = s; written = t; is_due = inr (inr (record { file = file; limit = limit; bytes = bytes; asks = asks; under = h; answer = a })); as_far = w })
+      inr (record { due = s; written = t; is_due = inr (inr (record { file = file; lp = lp; limit = limit; bytes = bytes; asks = asks; under = h; answer = a })); as_far = w })
 
   -- the same of an answer that memory may have run out for
-  pub ends_answer : (bytes : List ℕ) (r : Result Answer OutOfMemory) → HasFile k.shelf.files file bytes → IfOk r (λ a. Answers (format_in k.words) bytes limit a.status a.text.items)
+  pub ends_answer : (bytes : List ℕ) (r : Result Answer OutOfMemory) → HasFile k.shelf.files file bytes → IfOk r (λ a. Answers (format_by lp) bytes limit a.status a.text.items)
       → IfOk r (λ a. IsWrittenBy k.sink result a.status a.text.items) → OnErr r ((result ≡ statuses.OutOfMemory) × WroteNothing k.sink) → Ends k result
   ends_answer bytes (Ok a) h is w n = ends_answered bytes a.status a.text.items h is w
   ends_answer bytes (Err e) h is w n = inl n
@@ -70,8 +71,8 @@ module _ (k : Call) (result : Status) (file : List ℕ) (limit : ℕ) (asks : As
   pub ends_long : (r : Result Answer OutOfMemory) → HasLongFile k.shelf.files file byte_limit → IfOk r (λ a. a.status ≡ statuses.File) → IfOk r (λ a. a.text.items ≡ refused_text long_fault)
       → IfOk r (λ a. IsWrittenBy k.sink result a.status a.text.items) → OnErr r ((result ≡ statuses.OutOfMemory) × WroteNothing k.sink) → Ends k result
   ends_long r long e t w n =
-      let l = long_file (format_in k.words) k.shelf.files file long in
-      ends_answer l.0 r l.1.0 (refused_ok (format_in k.words) l.0 limit long_fault r l.1.1 e t) w n
+      let l = long_file (format_by lp) k.shelf.files file long in
+      ends_answer l.0 r l.1.0 (refused_ok (format_by lp) l.0 limit long_fault r l.1.1 e t) w n
 
 -- what the words and the bytes are answered is one status and one text
 module _ (format : Format) (bytes : List ℕ) (limit : ℕ) where
@@ -103,17 +104,18 @@ module _ (format : Format) (bytes : List ℕ) (limit : ℕ) where
 abbrev IsExactly : Call → Status → Status → List ℕ → Type 0
 IsExactly k result s w = ((result ≡ s) × Wrote k.sink w) ⊎ IsOrFault result statuses.ReadFault
 
-module _ (k : Call) (files : Files) (file : List ℕ) (limit : ℕ) (bytes written : List ℕ) (status : Status) (told : k.shelf.files ≡ Some files) (stands : files file ≡ Some bytes) (asks : AskFor k.words file limit) (answer : Answers (format_in k.words) bytes limit status written) where
-  same_answer : (s : Status) (w : List ℕ) (a : IsAnswered k s w) → Answers (format_in k.words) bytes limit s w
+module _ (k : Call) (files : Files) (file : List ℕ) (lp : Bool) (limit : ℕ) (bytes written : List ℕ) (status : Status) (told : k.shelf.files ≡ Some files) (stands : files file ≡ Some bytes) (asks : AskFor k.words file lp limit) (answer : Answers (format_by lp) bytes limit status written) where
+  same_answer : (s : Status) (w : List ℕ) (a : IsAnswered k s w) → Answers (format_by lp) bytes limit s w
   same_answer s w a =
-      let n : (a.file ≡ file) × (a.limit ≡ limit) = same_asked (sym a.asks ∙ asks) in
+      let n : (a.file ≡ file) × ((a.lp ≡ lp) × (a.limit ≡ limit)) = same_asked (sym a.asks ∙ asks) in
       let h : files a.file ≡ Some a.bytes = subst (λ f. HasFile f a.file a.bytes) told a.under in
       let b : a.bytes ≡ bytes = some_same (sym h ∙ ap files n.0 ∙ stands) in
-      subst (λ x. Answers (format_in k.words) x limit s w) b (subst (λ x. Answers (format_in k.words) a.bytes x s w) n.1 a.answer)
+      subst (λ x. Answers (format_by lp) x limit s w) b
+      (subst (λ x. Answers (format_by lp) a.bytes x s w) n.1.1 (subst (λ x. Answers (format_by x) a.bytes a.limit s w) n.1.0 a.answer))
 
   agreed : (result due : Status) (w : List ℕ) → IsAnswered k due w → (result ≡ due) × Wrote k.sink w → IsExactly k result status written
   agreed result due w d g =
-      let o = one_answer (format_in k.words) bytes limit due status w written (same_answer due w d) answer in
+      let o = one_answer (format_by lp) bytes limit due status w written (same_answer due w d) answer in
       inl (g.0 ∙ o.0, subst (Wrote k.sink) o.1 g.1)
 
   exactly_due : (result due : Status) (w : List ℕ) → IsDue k due w → (result ≡ due) × Wrote k.sink w → IsExactly k result status written
@@ -130,7 +132,7 @@ module _ (k : Call) (files : Files) (file : List ℕ) (limit : ℕ) (bytes writt
       go (inr f) = inr (inr (inr (inl f.0)))
 
 -- where the words ask for a file and neither the shelf nor the sink failed, what is due is an answer, and it was written whole
-module _ (k : Call) (file : List ℕ) (limit : ℕ) (asks : AskFor k.words file limit) (read : ShelfFailed k.shelf → ⊥) (wrote : SinkFailed k.sink → ⊥) where
+module _ (k : Call) (file : List ℕ) (lp : Bool) (limit : ℕ) (asks : AskFor k.words file lp limit) (read : ShelfFailed k.shelf → ⊥) (wrote : SinkFailed k.sink → ⊥) where
   complete_due : (result due : Status) (w : List ℕ) → IsDue k due w → (result ≡ due) × Wrote k.sink w → IsComplete k result
   complete_due result due w (inl bad) g = absurd (bad_asked (sym bad.bad ∙ asks))
   complete_due result due w (inr (inl d)) g = absurd (read d.failed)
@@ -168,12 +170,13 @@ ends_refused k (inr w) = go w.as_far
     at_status s t e (inr (inl d)) g = let f = sym e ∙ d.status_is in absurd cc
     at_status s t e (inr (inr d)) g = record {
       file = d.file;
+      lp = d.lp;
       limit = d.limit;
       bytes = d.bytes;
       written = t;
       asks = d.asks;
       under = d.under;
-      refuses = refuses (format_in k.words) d.bytes d.limit t (subst (λ x. Answers (format_in k.words) d.bytes d.limit x t) e d.answer);
+      refuses = refuses (format_by d.lp) d.bytes d.limit t (subst (λ x. Answers (format_by d.lp) d.bytes d.limit x t) e d.answer);
       wrote = g;
     }
 

@@ -1,5 +1,5 @@
 -- What a run answers on the words of a call and the bytes under FILE, and how a call may end.
-use Rattle.std.specs.Prelude.{◌≡◌, ℕ, ◌⊎◌, List, [], ◌∷◌, None, Ok, Err}
+use Rattle.std.specs.Prelude.{◌≡◌, ℕ, ◌⊎◌, Bool, List, [], ◌∷◌, None, Ok, Err}
 use Rattle.pami_edge.specs.Outside.{HasFile}
 use Rattle.pami_edge.specs.Calls.{ShelfCall, SinkCall, ShelfFailed, SinkFailed, Wrote, WrotePart, WroteNothing}
 use Rattle.pami_words.specs.declared.command.Command.TheVariants.{Solve}
@@ -10,7 +10,7 @@ use Rattle.pami_cli.specs.declared.status.Status.{Status}
 use Rattle.pami_cli.specs.declared.status.Status.TheVariants.{Words, File, ReadFault, WriteFault, OutOfMemory, NeedsPhaseOne}
 use Rattle.pami_form.specs.Widths.{first_wide}
 use Rattle.pami_model_form.specs.ModelForm.{model_form}
-use Rattle.pami_cli.specs.Reading.{Format, format_in, IsTextOf, IsFirstFaultOf}
+use Rattle.pami_cli.specs.Reading.{Format, format_by, IsTextOf, IsFirstFaultOf}
 use Rattle.pami_cli.specs.Answer.{AnswersModel, AnswersWide, AnswersPhaseOne}
 use Rattle.pami_cli.specs.Text.{bad_words_text, refused_text, read_fault_text}
 
@@ -44,9 +44,9 @@ pub record WaitsForPhaseOne (format : Format) (bytes written : List ℕ) : Type 
   pub widths : first_wide (model_form model).bounds ≡ None
   pub answer : AnswersPhaseOne model NeedsPhaseOne written
 
--- the words ask to solve this file with this limit of pivots; they are in no table
-abbrev pub AskFor : List (List ℕ) → List ℕ → ℕ → Type 0
-AskFor words file limit = read_outcome words ≡ Ok (Solve file limit)
+-- the words ask to solve this file, which is LP or else MPS, with this limit of pivots; they are in no table
+abbrev pub AskFor : List (List ℕ) → List ℕ → Bool → ℕ → Type 0
+AskFor words file lp limit = read_outcome words ≡ Ok (Solve file lp limit)
 
 abbrev pub AreBad : List (List ℕ) → Type 0
 AreBad words = read_outcome words ≡ Err (record {})
@@ -63,17 +63,19 @@ call words shelf sink = record { words = words; shelf = shelf; sink = sink }
 -- the words ask for a file, and this is the answer on bytes that stand under that name
 pub record IsAnswered (call : Call) (status : Status) (written : List ℕ) : Type 0 where
   pub file : List ℕ
+  pub lp : Bool
   pub limit : ℕ
   pub bytes : List ℕ
-  pub asks : AskFor call.words file limit
+  pub asks : AskFor call.words file lp limit
   pub under : HasFile call.shelf.files file bytes
-  pub answer : Answers (format_in call.words) bytes limit status written
+  pub answer : Answers (format_by lp) bytes limit status written
 
 -- the words are in the table, and the shelf failed
 pub record IsReadFault (call : Call) (status : Status) (written : List ℕ) : Type 0 where
   pub file : List ℕ
+  pub lp : Bool
   pub limit : ℕ
-  pub asks : AskFor call.words file limit
+  pub asks : AskFor call.words file lp limit
   pub status_is : status ≡ ReadFault
   pub failed : ShelfFailed call.shelf
   pub written_is : written ≡ read_fault_text
@@ -112,12 +114,13 @@ IsComplete call result = (result ≡ OutOfMemory) ⊎ ((written : List ℕ) × I
 -- the words ask for a file that is refused, on bytes that stand under its name, and this was written
 pub record IsFileRefused (call : Call) : Type 0 where
   pub file : List ℕ
+  pub lp : Bool
   pub limit : ℕ
   pub bytes : List ℕ
   pub written : List ℕ
-  pub asks : AskFor call.words file limit
+  pub asks : AskFor call.words file lp limit
   pub under : HasFile call.shelf.files file bytes
-  pub refuses : Refuses (format_in call.words) bytes written
+  pub refuses : Refuses (format_by lp) bytes written
   pub wrote : Wrote call.sink written
 
 -- this status, or one of the faults that may take the place of any
@@ -126,4 +129,4 @@ IsOrFault result status = (result ≡ status) ⊎ ((result ≡ ReadFault) ⊎ ((
 
 -- no name, or FILE alone
 abbrev pub AsksFor : List (List ℕ) → List (List ℕ) → Type 0
-AsksFor words asked = (asked ≡ []) ⊎ ((file : List ℕ) × (limit : ℕ) × AskFor words file limit × (asked ≡ file ∷ []))
+AsksFor words asked = (asked ≡ []) ⊎ ((file : List ℕ) × (lp : Bool) × (limit : ℕ) × AskFor words file lp limit × (asked ≡ file ∷ []))
