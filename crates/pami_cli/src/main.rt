@@ -8,6 +8,8 @@
 mod answer;
 pub mod answer_laws;
 mod certificate;
+#[cfg(test)]
+mod lp_tests;
 mod print;
 mod refuse;
 mod run;

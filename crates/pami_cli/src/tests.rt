@@ -11,7 +11,7 @@ use std::process::Abort;
 use std::test::Fail;
 
 /// A file with a line feed for each bar.
-fn lines(alloc: Global, text: &str) -> Result<Vec<u8>, Fail> {
+pub(crate) fn lines(alloc: Global, text: &str) -> Result<Vec<u8>, Fail> {
     let mut bytes = Vec::new(alloc);
     for byte in text.as_bytes() {
         bytes.push(if *byte == b'|' { b'\n' } else { *byte })?;
@@ -19,11 +19,11 @@ fn lines(alloc: Global, text: &str) -> Result<Vec<u8>, Fail> {
     Ok(bytes)
 }
 
-fn word(alloc: Global, text: &str) -> Result<Word, Fail> {
+pub(crate) fn word(alloc: Global, text: &str) -> Result<Word, Fail> {
     Ok(Word::from_string(String::from_str(alloc, text)?))
 }
 
-fn words(alloc: Global, texts: &[&str]) -> Result<Vec<Word>, Fail> {
+pub(crate) fn words(alloc: Global, texts: &[&str]) -> Result<Vec<Word>, Fail> {
     let mut words = Vec::new(alloc);
     for text in texts {
         words.push(word(alloc, text)?)?;
