@@ -59,7 +59,7 @@ keeps_both d e g names more a b = record {
 keeps_same : (d e : Draft) (names more : List (List ℕ)) → names ≡ more → Keeps d e names → Keeps d e more
 keeps_same d e names more h k = subst (λ (ns : List (List ℕ)). Keeps d e ns) h k
 
-changed-names : (columns : List Column) (i : ℕ) (f : Column → Column) → ((c : Column) → (f c).name ≡ c.name) → names_of_columns (changed i f columns) ≡ names_of_columns columns
+pub changed-names : (columns : List Column) (i : ℕ) (f : Column → Column) → ((c : Column) → (f c).name ≡ c.name) → names_of_columns (changed i f columns) ≡ names_of_columns columns
 changed-names [] i f h = refl
 changed-names (c ∷ cs) i f h = by (nat_eq i 0) (changed-names cs (i - 1) f h)
   where

@@ -27,3 +27,5 @@ pub mod Answering
 pub mod Gathered
 pub mod Prices
 pub mod Still
+pub mod Spans
+pub mod Spanned

@@ -1,6 +1,6 @@
 -- A file gives each column the sum of its coefficients in the objective, in their order, and the objective the sum of its
 -- constants.
-use Rattle.std.proofs.Common.{◌≡◌, ◌≢◌, ◌+◌, ◌-◌, ◌<◌, ℕ, zero, suc, Bool, true, false, true≢false, cond, not, nat_eq, nat_lt, List, [], ◌∷◌, ◌++◌, length, map, filter, fold, Option, None, Some, is_some, Result, Ok, Err, refl, sym, ap, subst, ◌∙◌, arith, rules}
+use Rattle.std.proofs.Common.{◌≡◌, ◌+◌, ◌-◌, ℕ, suc, Bool, true, false, true≢false, cond, nat_eq, nat_lt, List, [], ◌∷◌, ◌++◌, length, filter, fold, Option, None, Some, is_some, Result, Ok, Err, refl, sym, ap, subst, ◌∙◌, arith, rules}
 use Rattle.std.specs.List.{flat_map, position_or_len}
 use Rattle.std.specs.Option.{option_map}
 use Rattle.std.specs.Str.{bytes_eq}
@@ -12,40 +12,37 @@ use Rattle.pami_frac.proofs.Outcomes.{add_value}
 use Rattle.pami_frac.specs.Answers.{then as chain}
 use Rattle.pami_frac.specs.Arithmetic.{add_outcome}
 use Rattle.pami_frac.specs.declared.arithmetic.Refused.{Refused}
-use Rattle.pami_frac.specs.declared.list.Bounds.{Bounds}
-use Rattle.pami_frac.specs.declared.list.Entry.{Entry}
 use Rattle.pami_frac.specs.Decimal.{decimal_value}
-use Rattle.pami_model.specs.declared.fault.FileKind.{FileKind}
 use Rattle.pami_model.specs.declared.list.Column.{Column}
-use Rattle.pami_model.specs.Draft.{Draft, changed, column_at, column_with_bounds, column_with_cost, is_zero, new_column, place_of, stores}
+use Rattle.pami_model.specs.Draft.{Draft, changed, column_at, column_with_cost, new_column, place_of}
 use Rattle.pami_model.specs.Rules.{names_of_columns}
-use Rattle.pami_lp.specs.Gather.{column_named, coefficient_in, goal_constants, goal_prices, part_constants, part_prices, plus_all, plus_for}
-use Rattle.pami_lp.specs.Grammar.{Goal, Nothing, Parts, Later, Part, Named, Alone, Term}
+use Rattle.pami_lp.specs.Gather.{column_named, goal_constants, goal_prices, part_constants, part_prices, plus_all, plus_for}
+use Rattle.pami_lp.specs.Grammar.{Goal, Nothing, Parts, Later, Part, Named, Alone}
 use Rattle.pami_lp.specs.Meaning.{is_minus, negated, number_in, take_goal, take_later, take_part}
 use Rattle.pami_lp.specs.Rules.{add_constant, add_cost, stand, stand_at}
-use Rattle.pami_lp.specs.Values.{coefficient_of, judged, number_of, signed, sum_by, sum_of}
-use Rattle.pami_lp.proofs.Gathered.{On, judged_on, on}
+use Rattle.pami_lp.specs.Values.{coefficient_of, number_of, signed, sum_by, sum_of}
+use Rattle.pami_lp.proofs.Gathered.{judged_on, on}
 use Rattle.pami_lp.proofs.Stepped.{not_ok, ok_same}
 
 -- ---- places of names
 
-same : (x y : List ℕ) → bytes_eq x y ≡ true → x ≡ y
+pub same : (x y : List ℕ) → bytes_eq x y ≡ true → x ≡ y
 same x y h = (bytes_eq-Decides x y).0 h
 
-itself : (x : List ℕ) → bytes_eq x x ≡ true
+pub itself : (x : List ℕ) → bytes_eq x x ≡ true
 itself x = (bytes_eq-Decides x x).1 refl
 
-none_some : {A : Type 0} {i : ℕ} → ◌≡◌ {A = Option ℕ} None (Some i) → A
+pub none_some : {A : Type 0} {i : ℕ} → ◌≡◌ {A = Option ℕ} None (Some i) → A
 none_some e = absurd (true≢false (sym (ap is_some e)))
 
-abbrev found_or : Option ℕ → ℕ
+abbrev pub found_or : Option ℕ → ℕ
 found_or None = 0
 found_or (Some i) = i
 
-some_same : {i j : ℕ} → ◌≡◌ {A = Option ℕ} (Some i) (Some j) → i ≡ j
+pub some_same : {i j : ℕ} → ◌≡◌ {A = Option ℕ} (Some i) (Some j) → i ≡ j
 some_same e = ap found_or e
 
-place_step : (n x : List ℕ) (xs : List (List ℕ)) → place_of n (x ∷ xs) ≡ cond (bytes_eq n x) (Some 0) (option_map suc (place_of n xs))
+pub place_step : (n x : List ℕ) (xs : List (List ℕ)) → place_of n (x ∷ xs) ≡ cond (bytes_eq n x) (Some 0) (option_map suc (place_of n xs))
 place_step n x xs = by (bytes_eq n x) refl
   where
     go : (a b : ℕ) (c d : Bool) → c ≡ d → cond c (Some (1 + a)) None ≡ option_map suc (cond d (Some a) None)
@@ -65,7 +62,7 @@ place_step n x xs = by (bytes_eq n x) refl
     by false e = rw e (go (position_or_len (bytes_eq n) xs) (length xs) _ _ (less (position_or_len (bytes_eq n) xs) (length xs)))
 
 -- a name that is put behind others
-place_push : (n : List ℕ) (xs : List (List ℕ)) → place_of n xs ≡ None → place_of n (xs ++ n ∷ []) ≡ Some (length xs)
+pub place_push : (n : List ℕ) (xs : List (List ℕ)) → place_of n xs ≡ None → place_of n (xs ++ n ∷ []) ≡ Some (length xs)
 place_push n [] h = place_step n n [] ∙ ap (λ (b : Bool). cond b (Some 0) (option_map suc (place_of n []))) (itself n)
 place_push n (x ∷ xs) h = place_step n x (xs ++ n ∷ []) ∙ by (bytes_eq n x) (sym (place_step n x xs) ∙ h) (λ e. place_push n xs e)
   where
@@ -80,7 +77,7 @@ place_push n (x ∷ xs) h = place_step n x (xs ++ n ∷ []) ∙ by (bytes_eq n x
 
 -- ---- the column of a name
 
-look_push : (cs : List Column) (n m : List ℕ) → column_named (cs ++ new_column n ∷ []) m ≡ column_named cs m
+pub look_push : (cs : List Column) (n m : List ℕ) → column_named (cs ++ new_column n ∷ []) m ≡ column_named cs m
 look_push [] n m = by (bytes_eq m n) refl
   where
     by : (b : Bool) → bytes_eq m n ≡ b → cond b (new_column n) (new_column m) ≡ new_column m
@@ -89,10 +86,10 @@ look_push [] n m = by (bytes_eq m n) refl
 look_push (c ∷ cs) n m = ap (λ (x : Column). cond (bytes_eq m c.name) c x) (look_push cs n m)
 
 -- another setting of the column at a name's place
-abbrev Renames : (Column → Column) → Type 0
+abbrev pub Renames : (Column → Column) → Type 0
 Renames f = (c : Column) → (f c).name ≡ c.name
 
-look_changed : (cs : List Column) (name : List ℕ) (j : ℕ) (f : Column → Column) → Renames f → place_of name (names_of_columns cs) ≡ Some j → (m : List ℕ)
+pub look_changed : (cs : List Column) (name : List ℕ) (j : ℕ) (f : Column → Column) → Renames f → place_of name (names_of_columns cs) ≡ Some j → (m : List ℕ)
     → column_named (changed j f cs) m ≡ cond (bytes_eq m name) (f (column_named cs m)) (column_named cs m)
 look_changed [] name j f keeps h m = none_some h
 look_changed (c ∷ cs) name j f keeps h m = by (bytes_eq name c.name) refl (sym (place_step name c.name (names_of_columns cs)) ∙ h) (λ i e. look_changed cs name i f keeps e m)
@@ -142,11 +139,11 @@ pub record Stood (d : Draft) (name : List ℕ) (p : Draft × ℕ) : Type 0 where
   pub constant : p.0.constant ≡ d.constant
   pub rows : p.0.rows ≡ d.rows
 
-names_push : (cs : List Column) (n : List ℕ) → names_of_columns (cs ++ new_column n ∷ []) ≡ names_of_columns cs ++ n ∷ []
+pub names_push : (cs : List Column) (n : List ℕ) → names_of_columns (cs ++ new_column n ∷ []) ≡ names_of_columns cs ++ n ∷ []
 names_push [] n = refl
 names_push (c ∷ cs) n = ap (λ (ns : List (List ℕ)). c.name ∷ ns) (names_push cs n)
 
-length_names : (cs : List Column) → length (names_of_columns cs) ≡ length cs
+pub length_names : (cs : List Column) → length (names_of_columns cs) ≡ length cs
 length_names [] = refl
 length_names (c ∷ cs) = let h : length (names_of_columns cs) ≡ length cs = length_names cs in omega arith
 
@@ -165,7 +162,7 @@ stood d name p h = by (place_of name (names_of_columns d.columns)) refl h
         })
 
 -- the column at a name's place is the column of the name
-column_here : (cs : List Column) (name : List ℕ) (j : ℕ) → place_of name (names_of_columns cs) ≡ Some j → column_at cs j ≡ column_named cs name
+pub column_here : (cs : List Column) (name : List ℕ) (j : ℕ) → place_of name (names_of_columns cs) ≡ Some j → column_at cs j ≡ column_named cs name
 column_here [] name j h = none_some h
 column_here (c ∷ cs) name j h = by (bytes_eq name c.name) (sym (place_step name c.name (names_of_columns cs)) ∙ h) (λ i e. column_here cs name i e)
   where

@@ -1,11 +1,9 @@
 -- Rows and bounds leave costs and the constant of the objective as they are.
-use Rattle.std.proofs.Common.{◌≡◌, ◌-◌, ℕ, Bool, true, false, cond, nat_eq, List, [], ◌∷◌, ◌++◌, length, Option, None, Some, is_some, Result, Ok, Err, refl, sym, ap, subst, ◌∙◌}
+use Rattle.std.proofs.Common.{◌≡◌, ◌-◌, ℕ, Bool, true, false, cond, nat_eq, List, [], ◌∷◌, ◌++◌, length, Option, None, Some, is_some, Ok, Err, refl, sym, ap, subst, ◌∙◌}
 use Rattle.std.specs.Str.{bytes_eq}
-use Rattle.pami_algebra.specs.Fraction.{Fraction}
 use Rattle.pami_frac.specs.Answers.{then as chain}
 use Rattle.pami_frac.specs.declared.list.Bounds.{Bounds}
 use Rattle.pami_frac.specs.declared.list.Entry.{Entry}
-use Rattle.pami_model.specs.declared.fault.FileKind.{FileKind}
 use Rattle.pami_model.specs.declared.fault.FileKind.TheVariants as kinds
 use Rattle.pami_model.specs.declared.list.Column.{Column}
 use Rattle.pami_model.specs.Draft.{Draft, changed, column_with_bounds, empty_draft, entry_fault, is_crossed, is_zero, new_row, place_of, stores}

@@ -1,6 +1,6 @@
--- What the parts of a file give, gathered: its columns by first appearance, their costs, the constant, and its rows with
--- their names and sides.
-use Rattle.std.specs.Prelude.{◌≡◌, ℕ, ◌+◌, Bool, false, List, [], ◌∷◌, ◌++◌, map, filter, fold, Option, None, Some, Result, Ok, Err, if◌then◌else◌}
+-- What the parts of a file give, gathered: its columns by first appearance with their costs and bounds, the
+-- constant, and its rows with their names and sides.
+use Rattle.std.specs.Prelude.{◌≡◌, ℕ, ◌+◌, Bool, true, false, List, [], ◌∷◌, ◌++◌, map, filter, fold, Option, None, Some, Result, Ok, Err, if◌then◌else◌}
 use Rattle.std.specs.List.{flat_map}
 use Rattle.std.specs.Option.{is_some, option_map}
 use Rattle.std.specs.Str.{bytes_eq}
@@ -12,12 +12,14 @@ use Rattle.pami_frac.specs.declared.list.Bounds.{Bounds}
 use Rattle.pami_frac.specs.Answers.{then as chain}
 use Rattle.pami_model.specs.declared.fault.FileKind.{FileKind}
 use Rattle.pami_model.specs.declared.list.Row.{Row as ModelRow}
-use Rattle.pami_model.specs.Draft.{Draft, new_column, new_row, place_of, zero}
+use Rattle.pami_model.specs.Draft.{Draft, new_column, new_row, nonnegative, place_of, zero}
 use Rattle.pami_model.specs.Rules.{names_of_columns}
+use Rattle.pami_lp_text.specs.declared.kind.Relation.{Relation}
+use Rattle.pami_lp_text.specs.declared.kind.Relation.TheVariants as relations
 use Rattle.pami_lp.specs.Grammar.{Bound, Set, From, Between, Freed, File, Further, Goal, Nothing, Parts, Later, Part, Named, Alone, Row, Side, Right, Left, Both, Term, Terms, way}
 use Rattle.pami_lp.specs.Meaning.{is_minus, left_side, negated, right_side}
-use Rattle.pami_lp.specs.Rules.{name_by}
-use Rattle.pami_lp.specs.Values.{coefficient_of, signed, unbounded}
+use Rattle.pami_lp.specs.Rules.{bounds_set, name_by}
+use Rattle.pami_lp.specs.Values.{coefficient_of, signed, turned, unbounded}
 
 -- ---- columns
 
@@ -121,3 +123,37 @@ plus_for name t ps = fold (λ t p. t +ᶠ p.1) t (filter (λ p. bytes_eq name p.
 pub record IsPriced (f : File) (d : Draft) : Type 0 where
   pub constant : d.constant ≡ plus_all zero (goal_constants f.goal)
   pub costs : (name : List ℕ) → (column_named d.columns name).cost ≡ plus_for name zero (goal_prices f.goal)
+
+-- ---- bounds
+
+-- the bounds of a column, and whether a lower one was stated for it
+pub record Span : Type 0 where
+  pub bounds : Bounds
+  pub stated : Bool
+
+abbrev pub states : Relation → Bool → Bool
+states relations.AtMost was = was
+states relations.AtLeast was = true
+states relations.Equal was = true
+
+abbrev pub span_set : Relation → Bounds → Span → Span
+span_set r sides x = record { bounds = bounds_set r x.stated x.bounds sides; stated = states r x.stated }
+
+-- what a bound makes of the span of its name
+abbrev pub bound_effect : Bound → Span → Span
+bound_effect (Set name r v) x = span_set r (sides_by (right_side r v unbounded)) x
+bound_effect (From v r name) x = span_set (turned r) (sides_by (left_side v r unbounded)) x
+bound_effect (Between v w name u) x = span_set (way w) (sides_by (right_side (way w) u unbounded)) (span_set (turned (way w)) (sides_by (left_side v (way w) unbounded)) x)
+bound_effect (Freed name) x = record { bounds = unbounded; stated = true }
+
+-- the span behind the bounds of a name, one after another
+abbrev pub span_of : List ℕ → Span → List Bound → Span
+span_of name x bs = fold (λ (y : Span) (b : Bound). bound_effect b y) x (filter (λ (b : Bound). bytes_eq name (bound_name b)) bs)
+
+abbrev pub bounds_in : Option (List Bound) → List Bound
+bounds_in None = []
+bounds_in (Some bs) = bs
+
+-- a column's bounds are 0 and infinity, and then what the bounds of its name make of them
+pub record IsBounded (f : File) (d : Draft) : Type 0 where
+  pub bounds : (name : List ℕ) → (column_named d.columns name).bounds ≡ (span_of name (record { bounds = nonnegative; stated = false }) (bounds_in f.bounds)).bounds
