@@ -146,7 +146,7 @@ fn width(bounds: &Bounds) -> Result<Option<Frac>, Refused>
 /// # Errors
 ///
 /// `Named` exactly where a width doesn't fit: the first such. `OutOfMemory` where memory runs out.
-fn all_widths(alloc: Global, bounds: &[Bounds]) -> Result<WidthList, Fault<WideBox>>
+pub(crate) fn all_widths(alloc: Global, bounds: &[Bounds]) -> Result<WidthList, Fault<WideBox>>
     requires { length bounds.now < 2 ^ 32 }
     ensures widths { IfOk result (λ ws. ws ≡ widths_of bounds.now) }
     ensures follows { Follows (first_wide bounds.now) result }

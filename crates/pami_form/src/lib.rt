@@ -5,12 +5,14 @@
 //! crossed, and on a width standing exactly where a variable is boxed.
 #![tactic(auto)]
 
+mod boxes;
 mod build;
 mod form;
 mod list;
 #[cfg(test)]
 mod tests;
 
+pub use boxes::phase_one_form;
 pub use build::form_of;
 pub use form::{Form, WideBox};
 pub use list::{BoundsList, Columns, WidthList};

@@ -1,0 +1,23 @@
+use Rattle.std.proofs.Common.{◌≡◌, ◌∙◌, sym, ap, subst, map, List}
+use Rattle.pami_algebra.specs.Fraction.{Fraction}
+use Rattle.pami_frac.specs.declared.list.Bounds.{Bounds}
+use Rattle.pami_theory.specs.Boxes.{box}
+use Rattle.pami_form.specs.Form.{KeepsForm, widths_of}
+use Rattle.pami_form.proofs.Boxings.{keeps_boxes, no_wide}
+use Rattle.pami_form.proofs.boxes.phase_one_form.Goals as goal
+
+pub unreachable-requires : goal.unreachable-requires
+unreachable-requires c =
+    let form = c.args.form.now in
+    no_wide (c.as_slice-2.result.now) c.in_ok-bounds.bounds c.as_slice-4.result.now c.in-Err-Named.field-0 c.in-Err-Named.field-0-0 c.as_slice-4.ensures c.in_ok-bounds.ensures c.in-Err-Named.field-0-is c.in-Err-Named.ensures.follows
+
+pub invariant_of-result : goal.invariant_of-result
+invariant_of-result c =
+    let form = c.args.form.now in
+    let bounds : List Bounds = c.in_ok-bounds.bounds in
+    record {
+      kept = subst (λ (cs : List (List Fraction)). KeepsForm form.rows cs bounds c.from_vec-costs.result c.in-Ok.widths) (sym (c.in_ok-columns.ensures ∙ c.as_slice.ensures))
+          (subst (λ (ds : List Fraction). KeepsForm form.rows form.columns bounds ds c.in-Ok.widths) (sym (c.from_vec-costs.ensures ∙ c.in_ok-from_slice.ensures.items ∙ c.as_slice-3.ensures))
+          (keeps_boxes form.rows form.columns form.bounds bounds form.costs c.in-Ok.widths form.widths form.kept (c.in_ok-bounds.ensures ∙ ap (λ (bs : List Bounds). map box bs) c.as_slice-2.ensures)
+          (c.in-Ok.ensures.widths ∙ ap widths_of c.as_slice-4.ensures)));
+    }
