@@ -1,8 +1,11 @@
 //! What happens in a run, as it is told.
 
-use pami_frac::{Frac, ListOf};
+ghost use Rattle.std.specs.Prelude.{◌≡◌, IfOk};
+
+use pami_frac::{Frac, ListOf, OutOfMemory};
 use pami_method::{Mode, Place};
 use pami_vec::{PlaceList, Side, Stand};
+use std::alloc::Global;
 
 /// One thing that a major did.
 #[derive(Clone, Copy, Debug, PartialEq, Eq)]
@@ -57,6 +60,37 @@ pub enum Event {
         number: u64,
         place: Place,
     },
+}
+
+impl Event {
+    /// The same event again.
+    ///
+    /// # Errors
+    ///
+    /// `OutOfMemory` alone.
+    pub fn copy(&self, alloc: Global) -> Result<Event, OutOfMemory>
+        ensures { IfOk result (λ event. event ≡ self.now) }
+    {
+        match self {
+            Event::Header => Ok(Event::Header),
+            Event::Phase(phase) => Ok(Event::Phase(*phase)),
+            Event::Major {
+                number,
+                mode,
+                chosen,
+                moves,
+            } => Ok(Event::Major {
+                number: *number,
+                mode: *mode,
+                chosen: PlaceList::from_vec(Vec::from_slice(alloc, chosen.as_slice())?),
+                moves: Record::from_vec(Vec::from_slice(alloc, moves.as_slice())?),
+            }),
+            Event::Rollback { number, place } => Ok(Event::Rollback {
+                number: *number,
+                place: *place,
+            }),
+        }
+    }
 }
 
 /// Events in order.

@@ -8,6 +8,7 @@
 mod event;
 pub mod event_laws;
 mod print;
+mod teller;
 #[cfg(test)]
 mod tests;
 mod words;
@@ -15,4 +16,5 @@ mod words;
 pub use event::{Event, EventList, Move, Record};
 pub use pami_method::{Mode, Place, Spot};
 pub use print::{print_event, push_event};
+pub use teller::{ListTeller, TellFailed, Teller};
 pub use words::{push_place, push_variable};

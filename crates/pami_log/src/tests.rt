@@ -1,8 +1,11 @@
 //! The lines of each event and the words of each refused operation. Every expected text is worked out from the
 //! format by hand.
 
-use crate::{Event, Mode, Move, Place, Record, Spot, print_event, push_event, push_place};
-use pami_frac::{Bounds, Frac, Op, Refused};
+use crate::{
+    Event, ListTeller, Mode, Move, Place, Record, Spot, TellFailed, Teller, print_event,
+    push_event, push_place,
+};
+use pami_frac::{Bounds, Fault, Frac, Op, Refused};
 use pami_model::{Builder, Model};
 use pami_vec::{PlaceList, Side, Stand};
 use std::test::Fail;
@@ -200,5 +203,59 @@ fn refused_operations_have_their_words(rt: HostRuntime) -> Result<(), Fail> {
         push_place(&mut out, &place)?;
         assert_eq!(rt; &out.as_slice()[6..], wanted);
     }
+    Ok(())
+}
+
+/// Counts its events, and fails at one of them.
+#[derive(Debug, Drop)]
+struct FailingTeller {
+    calls: u64,
+    fails_at: u64,
+    faults: u64,
+}
+
+impl Teller for FailingTeller {
+    ghost use Rattle.std.specs.Prelude.{◌≡◌, length};
+
+    ghost stands = { λ t events. length events ≡ t.calls };
+
+    ghost stopped = { λ t events. length events ≡ t.calls };
+
+    ghost faults = { λ t. t.faults };
+
+    fn tell(&mut self, event: &Event) -> Result<(), Fault<TellFailed>> {
+        let _told = event;
+        if self.calls == u64::MAX || self.faults == u64::MAX {
+            return Err(Fault::OutOfMemory);
+        }
+        self.calls += 1;
+        if self.calls == self.fails_at {
+            self.faults += 1;
+            return Err(Fault::Named(TellFailed));
+        }
+        Ok(())
+    }
+}
+
+/// Tells the first events of a run.
+fn tell_three<T: Teller>(teller: &mut T) -> Result<(), Fault<TellFailed>> {
+    teller.tell(&Event::Header)?;
+    teller.tell(&Event::Phase(1))?;
+    teller.tell(&Event::Phase(2))
+}
+
+#[test]
+fn tellers_keep_or_fail(rt: HostRuntime) -> Result<(), Fail> {
+    let mut list = ListTeller::new(rt.alloc()).ok().ok_or("a teller")?;
+    assert!(rt; tell_three(&mut list).is_ok());
+    assert_eq!(rt; list.events().len(), 3);
+    let mut failing = FailingTeller {
+        calls: 0,
+        fails_at: 2,
+        faults: 0,
+    };
+    assert!(rt; matches!(tell_three(&mut failing), Err(Fault::Named(TellFailed))));
+    assert_eq!(rt; failing.calls, 2);
+    assert_eq!(rt; failing.faults, 1);
     Ok(())
 }
