@@ -404,7 +404,7 @@ entries_turned form st s row w e h =
     }
 
 -- ---- solutions
-forward_solves : (columns : List (List Fraction)) (bounds : List Bounds) (costs : List Fraction) (b : Basis) (ks : List EliminationStep) (right x : List Fraction) → IsForm columns bounds costs → IsBasis (form_by columns bounds costs) b
+pub forward_solves : (columns : List (List Fraction)) (bounds : List Bounds) (costs : List Fraction) (b : Basis) (ks : List EliminationStep) (right x : List Fraction) → IsForm columns bounds costs → IsBasis (form_by columns bounds costs) b
     → elimination (form_by columns bounds costs) b.head ≡ Ok ks → length right ≡ rows_of columns → forward_script ks [] right ≡ Ok x
     → (length x ≡ rows_of columns) × Solves (rows_of columns) (basis_column (form_by columns bounds costs) b) (get x) (get right)
 forward_solves columns bounds costs b ks right x form is e l h =

@@ -1,6 +1,7 @@
 -- A walk on its way: whether a major is due by the places, where the walk begins and ends, and what follows a major.
-use Rattle.std.proofs.Common.{◌≡◌, ℕ, suc, ◌+◌, ◌<◌, true, List, [], ◌∷◌, ◌++◌, length, None, Some, Option, refl, sym, ap, ◌∙◌, subst, slice_index_or, append_assoc, append-nil, add-one, arith}
+use Rattle.std.proofs.Common.{◌≡◌, ℕ, suc, ◌+◌, ◌<◌, ◌≤◌, true, List, [], ◌∷◌, ◌++◌, length, None, Some, Option, Result, Ok, Err, inl, inr, refl, sym, ap, ◌∙◌, subst, slice_index_or, append_assoc, append-nil, add-one, arith}
 use Rattle.std.specs.List.{All}
+use Rattle.std.specs.Result.{IfOk}
 use Rattle.std.proofs.lemmas.List.{get_or_default}
 use Rattle.std.proofs.lemmas.List.Elements.{All-get_or}
 use Rattle.std.proofs.Math.ListN.{get_or-map}
@@ -20,6 +21,7 @@ use Rattle.pami_method.specs.Factor.{History}
 use Rattle.pami_method.specs.declared.words.Place.{Place}
 use Rattle.pami_method.specs.declared.words.Mode.{Mode}
 use Rattle.pami_method.specs.declared.words.Mode.TheVariants.{Full, Single}
+use Rattle.pami_method.specs.declared.words.Options.{Options}
 use Rattle.pami_method.specs.Walk as method
 use Rattle.pami_theory.specs.declared.words.Side.{Side}
 use Rattle.pami_form.specs.declared.form.Form.{Form}
@@ -32,16 +34,19 @@ use Rattle.pami_log.specs.declared.event.Event.TheVariants as told
 use Rattle.pami_log.specs.Events.{major_event, refused_events, events_by, events_after, events_of}
 use Rattle.pami_major.specs.Ready.{form_of, IsReady}
 use Rattle.pami_major.specs.Within.{IsWithinAt, AreWithin, IsSomeOutside}
-use Rattle.pami_major.specs.Walks.{walk_state, IsKept, IsStuck, IsRefused, Majored, IsUnderway, majors_left, IsWalkedWhole, FollowsTurn, IsOnward, FollowsEnd, state_by, last_state}
-use Rattle.pami_method.specs.declared.words.Options.{Options}
-use Rattle.pami_major.specs.declared.one_row.MajorEnd.{MajorEnd}
-use Rattle.pami_major.specs.declared.one_row.MajorEnd.TheVariants as majors
+use Rattle.pami_major.specs.Walks.{walk_state, IsKept, IsStuck, IsRefused, Planned, IsUnderway, majors_left, IsWalkedWhole, BeginsWalk, IsReached, EndsSo, FollowsTurn, IsFault, IsFaultOnly, IsOnward, EndsTold, IsLast, IsEnded, FollowsPlan, IsTakeable, state_by, last_state}
 use Rattle.pami_major.specs.declared.walk.WalkEnd.{WalkEnd}
 use Rattle.pami_major.specs.declared.walk.WalkEnd.TheVariants as ends
-use Rattle.pami_major.specs.declared.walk.Walked.{Walked}
-use Rattle.pami_major.specs.declared.walk.Underway.{Underway}
+use Rattle.pami_major.specs.declared.one_row.Plan.{Plan}
+use Rattle.pami_major.specs.declared.one_row.Plan.TheVariants as plans
+use Rattle.pami_frac.specs.declared.fault.Fault.{Fault}
+use Rattle.pami_frac.specs.declared.fault.Fault.TheVariants as faults
+use Rattle.pami_log.specs.declared.teller.TellFailed.{TellFailed}
+use Rattle.pami_log.specs.Tellers.{GoesOn}
+use Rattle.pami_major.specs.Majors.{IsMoved}
 use Rattle.pami_major.specs.declared.walk.Turned.{Turned}
 use Rattle.pami_major.specs.declared.walk.Turned.TheVariants as turns
+use Rattle.pami_method.proofs.WalkExists.{has_walk}
 use Rattle.pami_major.proofs.Laid.{head_known}
 use Rattle.pami_major.proofs.Ready.{Kept}
 
@@ -97,53 +102,73 @@ some_outside form limit st s r fresh o e =
     (within_by_not_outside (limits f (head_at b o.place)) (value_at_place b s o.place)
     ((violation_none (limits f (head_at b o.place)) (value_at_place b s o.place)).0 ((no_rows f b s st.weights).0 e o.place l))))
 
+-- the same of the lists that were lent
+pub within_of : (head other : List ℕ) (bounds others : List Bounds) (values more : List Fraction) → head ≡ other → bounds ≡ others → values ≡ more
+    → AreWithin (length head) head bounds values → AreWithin (length other) other others more
+within_of head other bounds others values more h b v w =
+    subst (λ xs. AreWithin (length xs) xs others more) h (subst (λ (bs : List Bounds). AreWithin (length head) head bs more) b (subst (λ (vs : List Fraction). AreWithin (length head) head bounds vs) v w))
+
+pub outside_of : (head other : List ℕ) (bounds others : List Bounds) (values more : List Fraction) → head ≡ other → bounds ≡ others → values ≡ more
+    → IsSomeOutside head bounds values → IsSomeOutside other others more
+outside_of head other bounds others values more h b v w =
+    subst (λ xs. IsSomeOutside xs others more) h (subst (λ (bs : List Bounds). IsSomeOutside head bs more) b (subst (λ (vs : List Fraction). IsSomeOutside head bounds vs) v w))
+
+plus_nil : (k : ℕ) → k + 0 ≡ k
+plus_nil k = omega arith
+
 -- ---- the walk begins, and ends where no major is due
-pub begins : (form : Form) (o : Options) (first : State) → IsReady form o.limit first → IsUnderway form o (walk_state first None) first modes.Full 1 []
-begins form o first r = record {
+pub begins : (form : Form) (o : Options) (tried : ℕ) (first : State) → IsReady form o.limit first → IsUnderway form o tried (walk_state first None) first modes.Full tried []
+begins form o tried first r = record {
   ready = r;
   history = None;
   worn = refl;
-  rest = λ gs end w. (gs, w, refl, refl);
+  rest = λ gs end w. (gs, w, refl, refl, refl);
 }
 
-pub optimal_ends : (form : Form) (o : Options) (first : method.State) (st : State) (mode : Mode) (number : ℕ) (events : List Event) → IsUnderway form o first st mode number events
-    → AreWithin (length st.head) st.head form.bounds st.values → IsWalkedWhole form o first (record { end = ends.Optimal; state = st; events = events })
-optimal_ends form o first st mode number events u w =
+-- nothing more was told
+whole_more : (form : Form) (o : Options) (tried : ℕ) (first : method.State) (end : WalkEnd) (st : State) (now : ℕ) (events : List Event) → IsWalkedWhole form o tried first end st now events → IsWalkedWhole form o tried first end st now (events ++ [])
+whole_more form o tried first end st now events w = subst (IsWalkedWhole form o tried first end st now) (sym (append-nil events)) w
+
+pub optimal_ends : (form : Form) (o : Options) (tried : ℕ) (first : method.State) (st : State) (mode : Mode) (now : ℕ) (events : List Event) → IsUnderway form o tried first st mode now events
+    → AreWithin (length st.head) st.head form.bounds st.values → IsWalkedWhole form o tried first ends.Optimal st now events
+optimal_ends form o tried first st mode now events u w =
     let s = u.ready.solved.fresh in
     let last = walk_state st u.history in
     let all = u.rest [] (method.Optimal last) (refl, (s, u.ready.solved.solved, none_outside form o.limit st s u.ready u.ready.solved.solved w)) in
     record {
-      walked = record { majors = all.0; end = method.Optimal last; walk = all.1; told_end = refl; told_state = (u.history, all.3); told_events = sym (all.2 ∙ append-nil events) };
+      walked = record { majors = all.0; end = method.Optimal last; walk = all.1; told_end = (refl, refl); told_state = (u.history, all.3); told_events = sym (all.2 ∙ append-nil events); counted = sym (all.4 ∙ plus_nil now) };
       ready = u.ready;
       row = tt;
     }
 
-pub limit_ends : (form : Form) (o : Options) (first : method.State) (st : State) (mode : Mode) (number : ℕ) (events : List Event) → IsUnderway form o first st mode number events
-    → IsSomeOutside st.head form.bounds st.values → st.pivots ≡ o.limit → IsWalkedWhole form o first (record { end = ends.Limit; state = st; events = events })
-limit_ends form o first st mode number events u w e =
+pub limit_ends : (form : Form) (o : Options) (tried : ℕ) (first : method.State) (st : State) (mode : Mode) (now : ℕ) (events : List Event) → IsUnderway form o tried first st mode now events
+    → IsSomeOutside st.head form.bounds st.values → st.pivots ≡ o.limit → IsWalkedWhole form o tried first ends.Limit st now events
+limit_ends form o tried first st mode now events u w e =
     let s = u.ready.solved.fresh in
     let last = walk_state st u.history in
     let all = u.rest [] (method.Limit last) (refl, e, (s, u.ready.solved.solved, some_outside form o.limit st s u.ready u.ready.solved.solved w)) in
     record {
-      walked = record { majors = all.0; end = method.Limit last; walk = all.1; told_end = (refl, refl); told_state = (u.history, all.3); told_events = sym (all.2 ∙ append-nil events) };
+      walked = record { majors = all.0; end = method.Limit last; walk = all.1; told_end = (refl, refl); told_state = (u.history, all.3); told_events = sym (all.2 ∙ append-nil events); counted = sym (all.4 ∙ plus_nil now) };
       ready = u.ready;
       row = tt;
     }
 
 -- ---- what follows a major
--- with the three parts of what was told
-whole_of : (form : Form) (o : Options) (first : method.State) (end : WalkEnd) (state : State) (events : List Event) (x : Walked) → x.end ≡ end → x.state ≡ state → x.events ≡ events
-    → IsWalkedWhole form o first (record { end = end; state = state; events = events }) → IsWalkedWhole form o first x
-whole_of form o first end state events x e s v w =
-    subst (λ (a : WalkEnd). IsWalkedWhole form o first (record { end = a; state = x.state; events = x.events })) (sym e)
-    (subst (λ (b : State). IsWalkedWhole form o first (record { end = end; state = b; events = x.events })) (sym s)
-    (subst (λ (c : List Event). IsWalkedWhole form o first (record { end = end; state = state; events = c })) (sym v) w))
+same_tried : (t now : ℕ) → t ≡ now + 1 → t ≤ now + 1
+same_tried t now e = omega arith
+
+one_less : (tried now k l : ℕ) → tried + k ≡ now + suc l → tried + k ≡ now + 1 + l
+one_less tried now k l e = omega arith
+
+last_one : (tried now k : ℕ) → tried + k ≡ now + 1 → now + 1 ≡ tried + k
+last_one tried now k e = sym e
 
 -- the walk goes on behind a kept major
-kept_goes : (form : Form) (o : Options) (first : method.State) (old : State) (mode : Mode) (number : ℕ) (events : List Event) (new : State) (event : Event)
-    → (u : IsUnderway form o first old mode number events) → IsKept form o number mode (walk_state old u.history) new event
-    → IsUnderway form o first new modes.Full (number + 1) (events ++ event ∷ [])
-kept_goes form o first old mode number events new event u k =
+kept_goes : (form : Form) (o : Options) (tried : ℕ) (first : method.State) (old : State) (mode : Mode) (now : ℕ) (events : List Event) (new : State) (event : Event)
+    → (u : IsUnderway form o tried first old mode now events) → IsKept form o (now + 1) mode (walk_state old u.history) new event
+    → IsUnderway form o tried first new modes.Full (now + 1) (events ++ event ∷ [])
+kept_goes form o tried first old mode now events new event u k =
+    let number = now + 1 in
     let f = form_of form in
     let p = o in
     let st = walk_state old u.history in
@@ -164,6 +189,7 @@ kept_goes form o first old mode number events new event u k =
                 ∙ ap (λ (e : Event). events ++ (e ∷ events_of f p next gs)) (sym k.told)
                 ∙ sym (append_assoc events (event ∷ []) (events_of f p next gs)),
             all.3 ∙ ap (λ (a : method.After). state_by a st (λ t. last_state f p t gs)) k.goes,
+            one_less tried now (length all.0) (length gs) all.4,
           );
     }
 
@@ -174,10 +200,11 @@ after_refused form o number mode st place r =
     ap (method.after_by (form_of form) o st r.major) r.is_refused ∙ ap (λ m. method.refused_after m st r.refused) r.due.in_mode
 
 -- a Full major is rolled back, and the walk goes on in Single from the same state
-rolled_back : (form : Form) (o : Options) (first : method.State) (old : State) (number : ℕ) (events : List Event) (place : Place)
-    → (u : IsUnderway form o first old modes.Full number events) → IsRefused form o number Full (walk_state old u.history) place
-    → IsUnderway form o first old modes.Single (number + 1) (events ++ told.Rollback number place ∷ [])
-rolled_back form o first old number events place u r =
+rolled_back : (form : Form) (o : Options) (tried : ℕ) (first : method.State) (old : State) (now : ℕ) (events : List Event) (place : Place)
+    → (u : IsUnderway form o tried first old modes.Full now events) → IsRefused form o (now + 1) Full (walk_state old u.history) place
+    → IsUnderway form o tried first old modes.Single (now + 1) (events ++ told.Rollback (now + 1) place ∷ [])
+rolled_back form o tried first old now events place u r =
+    let number = now + 1 in
     let f = form_of form in
     let p = o in
     let st = walk_state old u.history in
@@ -200,14 +227,16 @@ rolled_back form o first old number events place u r =
                 ∙ ap (λ (x : Place). events ++ (told.Rollback number x ∷ events_of f p st gs)) (sym r.told)
                 ∙ sym (append_assoc events (told.Rollback number place ∷ []) (events_of f p st gs)),
             all.3 ∙ ap (λ (a : method.After). state_by a st (λ t. last_state f p t gs)) goes,
+            one_less tried now (length all.0) (length gs) all.4,
           );
     }
 
 -- a Single major that is refused ends the walk, and isn't told
-overflow_ends : (form : Form) (o : Options) (first : method.State) (old : State) (number : ℕ) (events : List Event) (place : Place)
-    → (u : IsUnderway form o first old modes.Single number events) → IsRefused form o number Single (walk_state old u.history) place
-    → IsWalkedWhole form o first (record { end = ends.Overflow place; state = old; events = events })
-overflow_ends form o first old number events place u r =
+overflow_ends : (form : Form) (o : Options) (tried : ℕ) (first : method.State) (old : State) (now : ℕ) (events : List Event) (place : Place)
+    → (u : IsUnderway form o tried first old modes.Single now events) → IsRefused form o (now + 1) Single (walk_state old u.history) place
+    → IsWalkedWhole form o tried first (ends.Overflow place) old (now + 1) events
+overflow_ends form o tried first old now events place u r =
+    let number = now + 1 in
     let f = form_of form in
     let p = o in
     let st = walk_state old u.history in
@@ -229,16 +258,18 @@ overflow_ends form o first old number events place u r =
             ∙ ap (λ (m : Mode). events ++ (refused_events r.major.number m r.refused ++ [])) r.due.in_mode
             ∙ append-nil events
             );
+        counted = last_one tried now (length all.0) all.4;
       };
       ready = u.ready;
       row = tt;
     }
 
 -- a row without an entering variable ends it too
-stuck_ends : (form : Form) (o : Options) (first : method.State) (old : State) (mode : Mode) (number : ℕ) (events : List Event) (event : Event) (place : ℕ) (side : Side) (rho : List Fraction)
-    → (u : IsUnderway form o first old mode number events) → IsStuck form o number mode (walk_state old u.history) event place side rho
-    → IsWalkedWhole form o first (record { end = ends.NoEntering place side rho; state = old; events = events ++ event ∷ [] })
-stuck_ends form o first old mode number events event place side rho u k =
+stuck_ends : (form : Form) (o : Options) (tried : ℕ) (first : method.State) (old : State) (mode : Mode) (now : ℕ) (events : List Event) (event : Event) (place : ℕ) (side : Side) (rho : List Fraction)
+    → (u : IsUnderway form o tried first old mode now events) → IsStuck form o (now + 1) mode (walk_state old u.history) event place side rho
+    → IsWalkedWhole form o tried first (ends.NoEntering place side rho) old (now + 1) (events ++ event ∷ [])
+stuck_ends form o tried first old mode now events event place side rho u k =
+    let number = now + 1 in
     let f = form_of form in
     let p = o in
     let st = walk_state old u.history in
@@ -258,6 +289,7 @@ stuck_ends form o first old mode number events event place side rho u k =
             ∙ ap (λ (a : method.After). events ++ (major_event f o.limit k.major ∷ events_after a (λ t. events_of f p t []))) k.ends
             ∙ ap (λ (e : Event). events ++ (e ∷ [])) (sym k.told)
             );
+        counted = last_one tried now (length all.0) all.4;
       };
       ready = u.ready;
       row = k.by_row;
@@ -271,38 +303,189 @@ fewer_behind limit old new modes.Single l e = omega arith
 fewer_in_single : (limit : ℕ) (old : State) → majors_left limit old modes.Single < majors_left limit old modes.Full
 fewer_in_single limit old = omega arith
 
--- ---- the walk behind a major
--- where it goes on, with the parts of what goes on
-onward_of : (form : Form) (o : Options) (first : method.State) (old : State) (mode : Mode) (number : ℕ) (state : State) (then_mode : Mode) (events : List Event) (next : Underway)
-    → IsOnward (turns.GoesOn next) state then_mode (number + 1) events → IsUnderway form o first state then_mode (number + 1) events
-    → majors_left o.limit state then_mode < majors_left o.limit old mode → FollowsTurn form o first old mode number (turns.GoesOn next)
-onward_of form o first old mode number state then_mode events next h u l = (
-  subst (λ (s : State). IsUnderway form o first s next.mode next.number next.events.items) (sym h.0)
-      (subst (λ (m : Mode). IsUnderway form o first state m next.number next.events.items) (sym h.1)
-      (subst (λ n. IsUnderway form o first state then_mode n next.events.items) (sym h.2) (subst (λ (xs : List Event). IsUnderway form o first state then_mode (number + 1) xs) (sym h.3) u))),
-  h.2,
-  subst (λ (s : State). majors_left o.limit s next.mode < majors_left o.limit old mode) (sym h.0)
-      (subst (λ (m : Mode). majors_left o.limit state m < majors_left o.limit old mode) (sym h.1) l),
-)
+-- ---- what was told so far are the first events of a walk
+begins_on : (form : Form) (o : Options) (tried : ℕ) (first : method.State) (st : State) (mode : Mode) (now : ℕ) (events : List Event) → 1 ≤ o.batch → IsUnderway form o tried first st mode now events → BeginsWalk (form_of form) o tried first events
+begins_on form o tried first st mode now events some u =
+    let f = form_of form in
+    let here = walk_state st u.history in
+    let w = has_walk f o (now + 1) mode here some (record { basis = u.ready.basis; fresh = u.ready.solved.fresh; solved = u.ready.solved.solved; within = u.ready.within }) in
+    let all = u.rest w.0 w.1 w.2 in
+    record { majors = all.0; end = w.1; walk = all.1; later = events_of f o here w.0; whole = all.2 }
 
-pub end_follows : (form : Form) (o : Options) (first : method.State) (old : State) (mode : Mode) (number : ℕ) (events : List Event) (end : MajorEnd) (turned : Turned)
-    → IsUnderway form o first old mode number events → old.pivots < o.limit
-    → ((h : Option History) → method.eliminates_anew o mode h ≡ true → Majored form o number mode old h end)
-    → FollowsEnd end mode number events turned → FollowsTurn form o first old mode number turned
-end_follows form o first old mode number events (majors.Moved new event) (turns.Ends walked) u l m h = absurd h
-end_follows form o first old mode number events (majors.Moved new event) (turns.GoesOn next) u l m h =
-    let k = m u.history u.worn in
-    onward_of form o first old mode number new modes.Full (events ++ event ∷ []) next h (kept_goes form o first old mode number events new event u k) (fewer_behind o.limit old new mode l k.counted)
-end_follows form o first old mode number events (majors.Stuck same event place side rho) (turns.Ends walked) u l m h =
-    let k = m u.history u.worn in
-    whole_of form o first (ends.NoEntering place side rho) old (events ++ event ∷ []) walked h.0 (h.1 ∙ k.0) h.2 (stuck_ends form o first old mode number events event place side rho u k.1)
-end_follows form o first old mode number events (majors.Stuck same event place side rho) (turns.GoesOn next) u l m h = absurd h
-end_follows form o first old modes.Full number events (majors.Refused same place) (turns.Ends walked) u l m h = absurd h
-end_follows form o first old modes.Full number events (majors.Refused same place) (turns.GoesOn next) u l m h =
-    let k = m u.history u.worn in
-    onward_of form o first old modes.Full number old modes.Single (events ++ told.Rollback number place ∷ []) next (h.0 ∙ k.0, h.1, h.2, h.3) (rolled_back form o first old number events place u k.1)
-    (fewer_in_single o.limit old)
-end_follows form o first old modes.Single number events (majors.Refused same place) (turns.Ends walked) u l m h =
-    let k = m u.history u.worn in
-    whole_of form o first (ends.Overflow place) old events walked h.0 (h.1 ∙ k.0) h.2 (overflow_ends form o first old number events place u k.1)
-end_follows form o first old modes.Single number events (majors.Refused same place) (turns.GoesOn next) u l m h = absurd h
+reached_on : (form : Form) (o : Options) (tried : ℕ) (first : method.State) (st : State) (mode : Mode) (now : ℕ) (events : List Event) → 1 ≤ o.batch → IsUnderway form o tried first st mode now events → IsReached form o tried first st events
+reached_on form o tried first st mode now events some u = record { begins = begins_on form o tried first st mode now events some u; at = inl (mode, now, u) }
+
+reached_end : (form : Form) (o : Options) (tried : ℕ) (first : method.State) (st : State) (end : WalkEnd) (now : ℕ) (events : List Event) → IsWalkedWhole form o tried first end st now events → IsReached form o tried first st events
+reached_end form o tried first st end now events w = record {
+  begins = record { majors = w.walked.majors; end = w.walked.end; walk = w.walked.walk; later = []; whole = sym w.walked.told_events ∙ sym (append-nil events) };
+  at = inr (end, now, w);
+}
+
+-- ---- the walk behind a planned major
+module _ (form : Form) (o : Options) (tried : ℕ) (first : method.State) (old : State) (mode : Mode) (now : ℕ) (events : List Event)
+    (stood stands stopped : List Event → Type 0) (n m : ℕ) (some : 1 ≤ o.batch) (u : IsUnderway form o tried first old mode now events) (below : old.pivots < o.limit) where
+  -- what is kept where memory runs out
+  kept_so : (state : State) → state ≡ old → GoesOn stood stands [] → m ≡ n → EndsSo form o tried first events state (now + 1) stood stands stopped n m (Err faults.OutOfMemory)
+  kept_so state e g k = (
+    [],
+    reached_on form o tried first state mode now (events ++ []) some
+        (subst (IsUnderway form o tried first state mode now) (sym (append-nil events)) (subst (λ (s : State). IsUnderway form o tried first s mode now events) (sym e) u)),
+    g,
+    k,
+  )
+
+  fault_follows : (moves : State → Type 0) (event : Event) (state : State) (last : ℕ) (fault : Fault TellFailed) → ((s : State) → moves s → IsReached form o tried first s (events ++ event ∷ []))
+      → IsFault old moves event stood stands stopped n m state fault → EndsSo form o tried first events state last stood stands stopped n m (Err fault)
+  fault_follows moves event state last (faults.Named failed) r h = ([], event, r state h.0, h.1, h.2)
+  fault_follows moves event state last faults.OutOfMemory r h = kept_so state h.0 h.1 h.2
+
+  onward_follows : (moves : State → Type 0) (event : Event) (next_mode : Mode) (turned : Turned) → ((s : State) → moves s → IsUnderway form o tried first s next_mode (now + 1) (events ++ event ∷ []))
+      → ((s : State) → moves s → majors_left o.limit s next_mode < majors_left o.limit old mode)
+      → IsOnward old moves event next_mode (now + 1) stood stands stopped n m turned → FollowsTurn form o tried first events old mode now stood stands stopped n m turned
+  onward_follows moves event next_mode (turns.GoesOn next) r l h = (
+    (
+      event ∷ [],
+      subst (λ (x : Mode). IsUnderway form o tried first next.state x next.tried (events ++ event ∷ [])) (sym h.1)
+          (subst (λ k. IsUnderway form o tried first next.state next_mode k (events ++ event ∷ [])) (sym h.2) (r next.state h.0)),
+      h.3,
+      h.4,
+    ),
+    h.2,
+    subst (λ (x : Mode). majors_left o.limit next.state x < majors_left o.limit old mode) (sym h.1) (l next.state h.0),
+  )
+  onward_follows moves event next_mode (turns.Ends ended) r l h = go ended.outcome h
+    where
+      go : (outcome : Result WalkEnd (Fault TellFailed)) → IsFaultOnly old moves event stood stands stopped n m ended.state outcome
+          → EndsSo form o tried first events ended.state ended.tried stood stands stopped n m outcome × IfOk outcome (λ end. ended.tried ≤ now + 1)
+      go (Ok end) k = absurd k
+      go (Err fault) k = (fault_follows moves event ended.state ended.tried fault (λ s x. reached_on form o tried first s next_mode (now + 1) (events ++ event ∷ []) some (r s x)) k, tt)
+
+  last_follows : (event : Event) (end : WalkEnd) (turned : Turned) → IsWalkedWhole form o tried first end old (now + 1) (events ++ event ∷ [])
+      → IsLast old event end (now + 1) stood stands stopped n m turned → FollowsTurn form o tried first events old mode now stood stands stopped n m turned
+  last_follows event end (turns.GoesOn next) w h = absurd h
+  last_follows event end (turns.Ends ended) w h = go ended.outcome h.1
+    where
+      go : (outcome : Result WalkEnd (Fault TellFailed)) → EndsTold old event end stood stands stopped n m ended.state outcome
+          → EndsSo form o tried first events ended.state ended.tried stood stands stopped n m outcome × IfOk outcome (λ end. ended.tried ≤ now + 1)
+      go (Ok found) k = (
+        (
+          event ∷ [],
+          subst (λ (x : WalkEnd). IsWalkedWhole form o tried first x ended.state ended.tried (events ++ event ∷ [])) (sym k.0)
+              (subst (λ (s : State). IsWalkedWhole form o tried first end s ended.tried (events ++ event ∷ [])) (sym k.1)
+              (subst (λ t. IsWalkedWhole form o tried first end old t (events ++ event ∷ [])) (sym h.0) w)),
+          k.2,
+          k.3,
+        ),
+        same_tried ended.tried now h.0,
+      )
+      go (Err fault) k = (
+        fault_follows (λ s. s ≡ old) event ended.state ended.tried fault
+            (λ s e. reached_end form o tried first s end (now + 1) (events ++ event ∷ [])
+            (subst (λ (x : State). IsWalkedWhole form o tried first end x (now + 1) (events ++ event ∷ [])) (sym e) w)) k,
+        tt,
+      )
+
+  ended_follows : (end : WalkEnd) (turned : Turned) → IsWalkedWhole form o tried first end old (now + 1) events → IsEnded old end (now + 1) stood stands n m turned → FollowsTurn form o tried first events old mode now stood stands stopped n m turned
+  ended_follows end (turns.GoesOn next) w h = absurd h
+  ended_follows end (turns.Ends ended) w h =
+      subst (λ (x : Result WalkEnd (Fault TellFailed)). EndsSo form o tried first events ended.state ended.tried stood stands stopped n m x × IfOk x (λ end. ended.tried ≤ now + 1)) (sym h.2) (
+        (
+          [],
+          subst (λ (s : State). IsWalkedWhole form o tried first end s ended.tried (events ++ [])) (sym h.0)
+              (subst (λ t. IsWalkedWhole form o tried first end old t (events ++ [])) (sym h.1) (whole_more form o tried first end old (now + 1) events w)),
+          h.3,
+          h.4,
+        ),
+        same_tried ended.tried now h.1,
+      )
+
+pub plan_follows : (form : Form) (o : Options) (tried : ℕ) (first : method.State) (old : State) (mode : Mode) (now : ℕ) (events : List Event) (stood stands stopped : List Event → Type 0) (n m : ℕ) (plan : Plan) (turned : Turned)
+    → 1 ≤ o.batch → IsUnderway form o tried first old mode now events → old.pivots < o.limit
+    → ((h : Option History) → method.eliminates_anew o mode h ≡ true → Planned form o (now + 1) mode old h plan)
+    → FollowsPlan old mode (now + 1) stood stands stopped n m plan turned → FollowsTurn form o tried first events old mode now stood stands stopped n m turned
+plan_follows form o tried first old mode now events stood stands stopped n m (plans.Moves row x chosen moves) turned some u l p h =
+    let event : Event = told.Major (now + 1) mode chosen moves in
+    let k = p u.history u.worn in
+    onward_follows form o tried first old mode now events stood stands stopped n m some u l (IsMoved old row x) event modes.Full turned
+    (λ new moved. kept_goes form o tried first old mode now events new event u (k.1 new moved))
+    (λ new moved. fewer_behind o.limit old new mode l (k.1 new moved).counted) h
+plan_follows form o tried first old mode now events stood stands stopped n m (plans.Stuck chosen moves place side rho) turned some u l p h =
+    let event : Event = told.Major (now + 1) mode chosen moves in
+    let k = p u.history u.worn in
+    last_follows form o tried first old mode now events stood stands stopped n m some u l event (ends.NoEntering place side rho) turned
+    (stuck_ends form o tried first old mode now events event place side rho u k) h
+plan_follows form o tried first old modes.Full now events stood stands stopped n m (plans.Refused place) turned some u l p h =
+    let k = p u.history u.worn in
+    onward_follows form o tried first old modes.Full now events stood stands stopped n m some u l (λ s. s ≡ old) (told.Rollback (now + 1) place) modes.Single turned
+    (λ s e. subst (λ (x : State). IsUnderway form o tried first x modes.Single (now + 1) (events ++ told.Rollback (now + 1) place ∷ [])) (sym e) (rolled_back form o tried first old now events place u k))
+    (λ s e. subst (λ (x : State). majors_left o.limit x modes.Single < majors_left o.limit old modes.Full) (sym e) (fewer_in_single o.limit old)) h
+plan_follows form o tried first old modes.Single now events stood stands stopped n m (plans.Refused place) turned some u l p h =
+    let k = p u.history u.worn in
+    ended_follows form o tried first old modes.Single now events stood stands stopped n m some u l (ends.Overflow place) turned
+    (overflow_ends form o tried first old now events place u k) h
+
+-- ---- a turn with nothing told
+stands_on : (stood : List Event → Type 0) → GoesOn stood stood []
+stands_on stood = λ xs h. subst stood (sym (append-nil xs)) h
+
+pub ends_quietly : (form : Form) (o : Options) (tried : ℕ) (first : method.State) (old : State) (mode : Mode) (now : ℕ) (events : List Event) (stood stopped : List Event → Type 0) (n : ℕ) (end : WalkEnd) (turned : Turned)
+    → turned ≡ turns.Ends (record { state = old; tried = now; outcome = Ok end }) → IsWalkedWhole form o tried first end old now events → FollowsTurn form o tried first events old mode now stood stood stopped n n turned
+ends_quietly form o tried first old mode now events stood stopped n end turned e w =
+    subst (λ (t : Turned). FollowsTurn form o tried first events old mode now stood stood stopped n n t) (sym e) (([], whole_more form o tried first end old now events w, stands_on stood, refl), omega arith)
+
+pub ends_short : (form : Form) (o : Options) (tried : ℕ) (first : method.State) (old : State) (mode : Mode) (now last : ℕ) (events : List Event) (stood stopped : List Event → Type 0) (n : ℕ) (turned : Turned)
+    → turned ≡ turns.Ends (record { state = old; tried = last; outcome = Err faults.OutOfMemory }) → 1 ≤ o.batch → IsUnderway form o tried first old mode now events → FollowsTurn form o tried first events old mode now stood stood stopped n n turned
+ends_short form o tried first old mode now last events stood stopped n turned e some u =
+    subst (λ (t : Turned). FollowsTurn form o tried first events old mode now stood stood stopped n n t) (sym e) (
+      (
+        [],
+        reached_on form o tried first old mode now (events ++ []) some (subst (IsUnderway form o tried first old mode now) (sym (append-nil events)) u),
+        stands_on stood,
+        refl,
+      ),
+      tt,
+    )
+
+always_anew : (o : Options) (mode : Mode) → method.eliminates_anew o mode None ≡ true
+always_anew o modes.Full = refl
+always_anew o modes.Single = refl
+
+pub takeable : (form : Form) (o : Options) (number : ℕ) (mode : Mode) (old : State) (plan : Plan)
+    → ((h : Option History) → method.eliminates_anew o mode h ≡ true → Planned form o number mode old h plan) → IsTakeable old plan
+takeable form o number mode old (plans.Moves row x chosen moves) p = (p None (always_anew o mode)).0
+takeable form o number mode old (plans.Stuck chosen moves place side rho) p = tt
+takeable form o number mode old (plans.Refused place) p = tt
+
+-- ---- turns in a row
+goes_further : (stood between stands : List Event → Type 0) (before more : List Event) → GoesOn stood between before → GoesOn between stands more → GoesOn stood stands (before ++ more)
+goes_further stood between stands before more h k = λ xs s. subst stands (append_assoc xs before more) (k (xs ++ before) (h xs s))
+
+pub ends_further : (form : Form) (o : Options) (tried : ℕ) (first : method.State) (before : List Event) (state : State) (now : ℕ) (stood between stands stopped : List Event → Type 0) (n k m : ℕ) (outcome : Result WalkEnd (Fault TellFailed))
+    → GoesOn stood between before → k ≡ n → EndsSo form o tried first before state now between stands stopped k m outcome → EndsSo form o tried first [] state now stood stands stopped n m outcome
+ends_further form o tried first before state now stood between stands stopped n k m (Ok end) g e h =
+    (before ++ h.0, h.1, goes_further stood between stands before h.0 g h.2, h.3 ∙ e)
+ends_further form o tried first before state now stood between stands stopped n k m (Err (faults.Named failed)) g e h = (
+  before ++ h.0,
+  h.1,
+  subst (IsReached form o tried first state) (sym (append_assoc before h.0 (h.1 ∷ []))) h.2,
+  subst (GoesOn stood stopped) (sym (append_assoc before h.0 (h.1 ∷ []))) (goes_further stood between stopped before (h.0 ++ h.1 ∷ []) g h.3),
+  subst (λ x. x < m) e h.4,
+)
+ends_further form o tried first before state now stood between stands stopped n k m (Err faults.OutOfMemory) g e h =
+    (before ++ h.0, h.1, goes_further stood between stands before h.0 g h.2, h.3 ∙ e)
+
+-- what holds between two turns
+abbrev pub IsTelling : Form → Options → ℕ → method.State → State → Mode → ℕ → (List Event → Type 0) → (List Event → Type 0) → ℕ → ℕ → Type 0
+IsTelling form o tried first state mode now stood stands n m =
+    (more : List Event) × IsUnderway form o tried first state mode now more × GoesOn stood stands more × (m ≡ n)
+
+pub telling_begins : (form : Form) (o : Options) (tried : ℕ) (first : State) (stood : List Event → Type 0) (n : ℕ) → IsReady form o.limit first → IsTelling form o tried (walk_state first None) first modes.Full tried stood stood n n
+telling_begins form o tried first stood n r = ([], begins form o tried first r, stands_on stood, refl)
+
+pub telling_further : (form : Form) (o : Options) (tried : ℕ) (first : method.State) (before : List Event) (state : State) (mode : Mode) (now : ℕ) (stood between stands : List Event → Type 0) (n k m : ℕ)
+    → GoesOn stood between before → k ≡ n → ((more : List Event) × IsUnderway form o tried first state mode now (before ++ more) × GoesOn between stands more × (m ≡ k)) → IsTelling form o tried first state mode now stood stands n m
+telling_further form o tried first before state mode now stood between stands n k m g e h = (before ++ h.0, h.1, goes_further stood between stands before h.0 g h.2, h.3 ∙ e)
+
+pub few_so : (outcome : Result WalkEnd (Fault TellFailed)) (t k n : ℕ) → IfOk outcome (λ end. t ≤ k) → k ≤ n → IfOk outcome (λ end. t ≤ n)
+few_so (Ok end) t k n h l = omega arith
+few_so (Err fault) t k n h l = tt

@@ -7,6 +7,7 @@
 //! chains to the scripts and steps of the whole form.
 #![tactic(auto)]
 
+mod alone;
 mod behind;
 mod change;
 mod choose;
@@ -22,5 +23,6 @@ mod tried;
 mod walk;
 mod within;
 
+pub use alone::{MajorEnd, major};
 pub use pami_method::{Mode, Options};
-pub use walk::{WalkEnd, Walked, drive};
+pub use walk::{WalkEnd, drive};

@@ -2,48 +2,47 @@
 
 ghost use Rattle.std.specs.Prelude.{◌≡◌, ◌<◌, ◌≤◌, ◌+◌, ◌++◌, ◌∷◌, [], ℕ, Option, List, map, length, true, IfOk};
 ghost use Rattle.pami_method.specs.Factor.{History};
+ghost use Rattle.pami_method.specs.declared.words.Mode.{Mode};
 ghost use Rattle.pami_method.specs.Walk.{IsOptions, eliminates_anew};
 ghost use Rattle.pami_log.specs.declared.event.Move.TheVariants.{Flipped, Pivoted};
 ghost use Rattle.pami_major.specs.Ready.{IsReady};
 ghost use Rattle.pami_major.specs.Tried.{leaving_at, AreMovable};
-ghost use Rattle.pami_major.specs.Majors.{IsTaken};
+ghost use Rattle.pami_major.specs.Majors.{moved_moves};
 ghost use Rattle.pami_major.specs.Within.{IsSomeOutside};
-ghost use Rattle.pami_major.specs.Walks.{IsOneRow, Majored};
+ghost use Rattle.pami_major.specs.Walks.{IsOneRow, Planned};
 
-use crate::behind::state_behind;
 use crate::choose::{LeavingRow, leaving_row};
 use crate::step::Flip;
 use crate::tried::{Tried, WorkedStep, try_row};
 use pami_form::Form;
 use pami_frac::{Fault, OutOfMemory};
-use pami_log::{Event, Mode, Move, Place, Record, Spot};
+use pami_log::{Move, Place, Record, Spot};
 use pami_lu::Steps;
 use pami_method::Options;
 use pami_state::State;
 use pami_vec::{PlaceList, Side, SpVec};
 use std::alloc::Global;
 
-/// How a major ended. The state that went in comes back, moved on by the step where there was one.
+/// What a major comes to, before its step is taken.
 #[derive(Debug, Drop)]
-pub(crate) enum MajorEnd {
-    /// A row left.
-    Moved {
-        state: State,
-        event: Event,
+pub(crate) enum Plan {
+    /// A row leaves by this step; the place of the chosen row, and what is done.
+    Moves {
+        row: LeavingRow,
+        step: WorkedStep,
+        chosen: PlaceList,
+        moves: Record,
     },
-    /// No variable could enter at this place; the row of the place, by row.
+    /// No variable can enter at this place, the chosen row's; what is said of it, and the row of the place, by row.
     Stuck {
-        state: State,
-        event: Event,
+        chosen: PlaceList,
+        moves: Record,
         place: u32,
         side: Side,
         rho: SpVec,
     },
     /// An operation didn't fit: the first such, with its script.
-    Refused {
-        state: State,
-        place: Place,
-    },
+    Refused(Place),
 }
 
 /// What is told of a step: its flips, each with where its variable stands then, and the pivot, where `count` is the count
@@ -80,28 +79,17 @@ fn step_moves(
     Ok(Record::from_vec(moves))
 }
 
-/// The event of a major whose one chosen row is at this place.
+/// The list of one place.
 ///
 /// # Errors
 ///
 /// `OutOfMemory` alone.
-fn major_event(
-    alloc: Global,
-    number: u64,
-    mode: Mode,
-    place: u32,
-    moves: Record,
-) -> Result<Event, OutOfMemory>
-    ensures { IfOk result (λ event. event ≡ Event.Major number mode (place ∷ []) moves) }
+fn one_place(alloc: Global, place: u32) -> Result<PlaceList, OutOfMemory>
+    ensures { IfOk result (λ places. places ≡ place ∷ []) }
 {
-    let mut chosen = Vec::new(alloc);
-    chosen.push(place)?;
-    Ok(Event::Major {
-        number,
-        mode,
-        chosen: PlaceList::from_vec(chosen),
-        moves,
-    })
+    let mut places = Vec::new(alloc);
+    places.push(place)?;
+    Ok(PlaceList::from_vec(places))
 }
 
 /// What is told where no variable can enter for a row.
@@ -109,14 +97,8 @@ fn major_event(
 /// # Errors
 ///
 /// `OutOfMemory` alone.
-fn stuck_event(
-    alloc: Global,
-    number: u64,
-    mode: Mode,
-    row: &LeavingRow,
-    leaving: u32,
-) -> Result<Event, OutOfMemory>
-    ensures { IfOk result (λ event. event ≡ Event.Major number mode (row.now.place ∷ []) (Move.Stuck row.now.place leaving row.now.violation.side ∷ [])) }
+fn stuck_moves(alloc: Global, row: &LeavingRow, leaving: u32) -> Result<Record, OutOfMemory>
+    ensures { IfOk result (λ moves. moves ≡ Move.Stuck row.now.place leaving row.now.violation.side ∷ []) }
 {
     let mut moves = Vec::new(alloc);
     moves.push(Move::Stuck {
@@ -124,84 +106,81 @@ fn stuck_event(
         leaving,
         side: row.violation.side,
     })?;
-    major_event(alloc, number, mode, row.place, Record::from_vec(moves))
+    Ok(Record::from_vec(moves))
 }
 
-/// Takes a step: the state behind it, with what is told of the major.
+/// The plan of a step, with what is told of it.
 ///
 /// # Errors
 ///
 /// `OutOfMemory` alone.
-fn take_step(
+fn moved_plan(
     alloc: Global,
-    state: State,
-    mode: Mode,
-    number: u64,
-    row: &LeavingRow,
+    state: &State,
+    row: LeavingRow,
     step: WorkedStep,
-) -> Result<MajorEnd, OutOfMemory>
-    requires { AreMovable state row.now step }
-    ensures { IfOk result (λ end. IsTaken state mode number row.now step end) }
+) -> Result<Plan, OutOfMemory>
+    requires { AreMovable state.now row step }
+    ensures { IfOk result (λ plan. plan ≡ Plan.Moves row step (row.place ∷ []) (moved_moves state.now row step)) }
 {
     let leaving = state.head.as_slice()[row.place as usize];
-    let moves = step_moves(alloc, row, leaving, &step, state.pivots + 1)?;
-    let event = major_event(alloc, number, mode, row.place, moves)?;
-    Ok(MajorEnd::Moved {
-        state: state_behind(state, row, step),
-        event,
+    let moves = step_moves(alloc, &row, leaving, &step, state.pivots + 1)?;
+    let chosen = one_place(alloc, row.place)?;
+    Ok(Plan::Moves {
+        row,
+        step,
+        chosen,
+        moves,
     })
 }
 
-/// The end of a major whose row has no entering variable.
+/// The plan where the row has no entering variable, with what is told of it.
 ///
 /// # Errors
 ///
 /// `OutOfMemory` alone.
-fn stay(
+fn stuck_plan(
     alloc: Global,
-    state: State,
-    mode: Mode,
-    number: u64,
+    state: &State,
     row: &LeavingRow,
     rho: SpVec,
-) -> Result<MajorEnd, OutOfMemory>
-    requires { row.now.place < length state.head }
-    ensures { IfOk result (λ end. end ≡ MajorEnd.Stuck state (Event.Major number mode (row.now.place ∷ []) (Move.Stuck row.now.place (leaving_at state row.now) row.now.violation.side ∷ [])) row.now.place row.now.violation.side rho) }
+) -> Result<Plan, OutOfMemory>
+    requires { row.now.place < length state.now.head }
+    ensures { IfOk result (λ plan. plan ≡ Plan.Stuck (row.now.place ∷ []) (Move.Stuck row.now.place (leaving_at state.now row.now) row.now.violation.side ∷ []) row.now.place row.now.violation.side rho) }
 {
     let leaving = state.head.as_slice()[row.place as usize];
-    let event = stuck_event(alloc, number, mode, row, leaving)?;
-    Ok(MajorEnd::Stuck {
-        state,
-        event,
+    let moves = stuck_moves(alloc, row, leaving)?;
+    Ok(Plan::Stuck {
+        chosen: one_place(alloc, row.place)?,
+        moves,
         place: row.place,
         side: row.violation.side,
         rho,
     })
 }
 
-/// Runs one major from a state at which some place is infeasible and a pivot is allowed: it chooses the first row in the
-/// order of choice, eliminates the basis, walks the row's candidates and takes its step. `number` and `mode` are only told.
-/// It counts four steps at most.
+/// Plans one major from a state at which some place is infeasible and a pivot is allowed: it chooses the first row in the
+/// order of choice, eliminates the basis, walks the row's candidates and works its step out, which isn't taken yet. A Full
+/// major and a Single one are the same here. It counts four steps at most.
 ///
 /// # Errors
 ///
-/// `OutOfMemory` alone; an operation that doesn't fit is an end.
-pub(crate) fn major<L>(
+/// `OutOfMemory` alone; an operation that doesn't fit is a plan.
+pub(crate) fn plan_major<L>(
     alloc: Global,
     form: &Form,
-    state: State,
-    mode: Mode,
-    number: u64,
+    state: &State,
     options: &Options,
     steps: &mut Steps<L>,
-) -> Result<MajorEnd, OutOfMemory>
+) -> Result<Plan, OutOfMemory>
     requires options { IsOptions options.now }
     requires one_row { IsOneRow options.now }
-    requires ready { IsReady form.now options.now.limit state }
-    requires below { state.pivots < options.now.limit }
-    requires due { IsSomeOutside state.head form.now.bounds state.values }
-    // Whatever the history of the factor, as long as the major eliminates anew.
-    ensures majored { IfOk result (λ end. (h : Option History) → eliminates_anew options.now mode h ≡ true → Majored form.now options.now number mode state h end) }
+    requires ready { IsReady form.now options.now.limit state.now }
+    requires below { state.now.pivots < options.now.limit }
+    requires due { IsSomeOutside state.now.head form.now.bounds state.now.values }
+    // Whatever its number, its mode and the history of the factor, as long as the major eliminates anew.
+    ensures planned { IfOk result (λ plan. (number : ℕ) (mode : Mode) (h : Option History) → eliminates_anew options.now mode h ≡ true
+        → Planned form.now options.now number mode state.now h plan) }
     ensures counted { steps.new.count ≤ steps.old.count + 4 }
 {
     let row = match leaving_row(
@@ -214,20 +193,17 @@ pub(crate) fn major<L>(
         Ok(Some(row)) => row,
         Ok(None) => unreachable!(),
         Err(Fault::Named(refused)) => {
-            return Ok(MajorEnd::Refused {
-                state,
-                place: Place {
-                    task: Spot::Choose,
-                    refused,
-                },
-            });
+            return Ok(Plan::Refused(Place {
+                task: Spot::Choose,
+                refused,
+            }));
         }
         Err(Fault::OutOfMemory) => return Err(OutOfMemory),
     };
-    match try_row(alloc, form, &state, &row, steps) {
-        Ok(Tried::Moves(step)) => take_step(alloc, state, mode, number, &row, step),
-        Ok(Tried::Stuck { rho }) => stay(alloc, state, mode, number, &row, rho),
-        Err(Fault::Named(place)) => Ok(MajorEnd::Refused { state, place }),
+    match try_row(alloc, form, state, &row, steps) {
+        Ok(Tried::Moves(step)) => moved_plan(alloc, state, row, step),
+        Ok(Tried::Stuck { rho }) => stuck_plan(alloc, state, &row, rho),
+        Err(Fault::Named(place)) => Ok(Plan::Refused(place)),
         Err(Fault::OutOfMemory) => Err(OutOfMemory),
     }
 }

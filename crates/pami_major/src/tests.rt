@@ -1,12 +1,12 @@
 //! Walks that pass boxed variables, over small models. Every expected text and value is worked out from the method by hand.
 
-use crate::{Options, WalkEnd, Walked, drive};
+use crate::{Options, WalkEnd, drive};
 use pami_form::form_of;
 use pami_frac::{Bounds, Frac, OutOfMemory};
-use pami_log::{print_event, push_place};
+use pami_log::{ListTeller, print_event, push_place};
 use pami_lu::Steps;
 use pami_model::{Builder, Model};
-use pami_state::start;
+use pami_state::{State, start};
 use pami_vec::Stand;
 use std::alloc::Global;
 use std::process::Abort;
@@ -83,11 +83,18 @@ fn model_of(
     Ok(builder.finish().ok().ok_or("a model")?)
 }
 
+/// How a walk ended, its last state, and what it told.
+struct Walked {
+    end: WalkEnd,
+    state: State,
+    teller: ListTeller,
+}
+
 /// The walk from the start of the model's form, with at most nine pivots.
 fn walked(alloc: Global, model: &Model) -> Result<Walked, Fail> {
     let form = form_of(alloc, model).ok().ok_or("a form")?;
     let bounds = form.bounds.as_slice();
-    let state = match start(
+    let mut state = match start(
         alloc,
         form.columns.as_slice(),
         bounds,
@@ -105,14 +112,26 @@ fn walked(alloc: Global, model: &Model) -> Result<Walked, Fail> {
         limit: 9,
     };
     let mut steps = Steps::<()>::new();
-    let walk = drive(alloc, &form, state, &options, &mut steps);
-    Ok(walk.ok().ok_or("a walk")?)
+    let mut tried = 0;
+    let mut teller = ListTeller::new(alloc).ok().ok_or("a teller")?;
+    match drive(
+        alloc,
+        &form,
+        &mut state,
+        &mut tried,
+        &options,
+        &mut teller,
+        &mut steps,
+    ) {
+        Ok(end) => Ok(Walked { end, state, teller }),
+        Err(_) => Err(Fail::from("a walk")),
+    }
 }
 
 /// The lines of a walk's events, and a line for its end.
 fn text_of(alloc: Global, model: &Model, walk: &Walked) -> Result<Vec<u8>, OutOfMemory> {
     let mut text = Vec::new(alloc);
-    for event in walk.events.as_slice() {
+    for event in walk.teller.events() {
         text.extend_from_slice(print_event(alloc, model, event)?.as_slice())?;
     }
     match &walk.end {

@@ -1,20 +1,23 @@
 //! The walk: majors from a state on until there is an answer. (Huangfu and Hall 2018, section 3, with one row a major.)
 
-ghost use Rattle.std.specs.Prelude.{◌≡◌, ◌<◌, ◌+◌, ◌^◌, None, IfOk};
+ghost use Rattle.std.specs.Prelude.{◌≡◌, ◌<◌, ◌≤◌, ◌+◌, ◌*◌, ◌^◌, ℕ, None, [], List, IfOk};
+ghost use Rattle.pami_log.specs.declared.event.Event.{Event};
 ghost use Rattle.pami_method.specs.Walk.{State as MethodState, IsOptions};
 ghost use Rattle.pami_major.specs.Ready.{form_of, IsReady};
-ghost use Rattle.pami_major.specs.Walks.{walk_state, IsOneRow, IsRowOfEnd, IsWalked, IsUnderway, FollowsTurn, FollowsEnd};
+ghost use Rattle.pami_major.specs.Walks.{walk_state, IsOneRow, IsUnderway, EndsSo, IsTakeable, FollowsPlan, FollowsTurn};
 
-use crate::one_row::{MajorEnd, major};
+use crate::behind::{no_state, state_behind};
+use crate::one_row::{Plan, plan_major};
 use crate::within::has_infeasible;
 use pami_form::Form;
-use pami_frac::OutOfMemory;
-use pami_log::{Event, EventList, Mode, Place};
+use pami_frac::Fault;
+use pami_log::{Event, Mode, Place, Record, TellFailed, Teller};
 use pami_lu::Steps;
 use pami_method::Options;
 use pami_state::State;
-use pami_vec::{Side, SpVec};
+use pami_vec::{PlaceList, Side, SpVec};
 use std::alloc::Global;
+use std::mem;
 
 /// How a walk ended.
 #[derive(Debug, Drop)]
@@ -29,152 +32,207 @@ pub enum WalkEnd {
     Overflow(Place),
 }
 
-/// What a walk tells: its end, the state of the last kept major, and an event for each major that was tried, but for a last
-/// one that was refused.
-#[derive(Debug, Drop)]
-pub struct Walked {
-    pub end: WalkEnd,
-    pub state: State,
-    pub events: EventList,
-}
-
-/// A walk on its way: the state, the mode and the number of the next major, and what was told.
+/// A walk on its way: the state, the mode of the next major, and the count of those that were tried.
 #[derive(Debug, Drop)]
 struct Underway {
     state: State,
     mode: Mode,
-    number: u64,
-    events: Vec<Event>,
+    tried: u64,
+}
+
+/// A walk that is over, with the last state and the count of majors that were tried.
+#[derive(Debug, Drop)]
+struct Ended {
+    state: State,
+    tried: u64,
+    outcome: Result<WalkEnd, Fault<TellFailed>>,
 }
 
 /// What becomes of a walk behind one major.
 #[derive(Debug, Drop)]
 enum Turned {
-    Ends(Walked),
+    Ends(Ended),
     GoesOn(Underway),
 }
 
 /// The end of a walk in this state.
-fn ended(end: WalkEnd, state: State, events: Vec<Event>) -> Turned
-    ensures { result ≡ Turned.Ends (record { end = end; state = state; events = events.items }) }
+fn end_in(state: State, tried: u64, outcome: Result<WalkEnd, Fault<TellFailed>>) -> Turned
+    ensures { result ≡ Turned.Ends (record { state = state; tried = tried; outcome = outcome }) }
 {
-    Turned::Ends(Walked {
-        end,
+    Turned::Ends(Ended {
         state,
-        events: EventList::from_vec(events),
+        tried,
+        outcome,
     })
 }
 
-/// What follows a major: behind a kept one the next is Full; a Full one that was refused is rolled back, and a Single one
-/// follows from the same state; a refusal of that one, and a row without an entering variable, end the walk.
-fn follow(end: MajorEnd, mode: Mode, number: u64, events: Vec<Event>) -> Result<Turned, OutOfMemory>
-    requires number { number + 1 < 2 ^ 64 }
-    ensures { IfOk result (λ turned. FollowsEnd end mode number events.items turned) }
+/// The event of a major that is told with its chosen rows and what it did.
+fn major_event(number: u64, mode: Mode, chosen: PlaceList, moves: Record) -> Event
+    ensures { result ≡ Event.Major number mode chosen moves }
 {
-    let mut events = events;
-    match end {
-        MajorEnd::Moved { state, event } => {
-            events.push(event)?;
-            Ok(Turned::GoesOn(Underway {
-                state,
-                mode: Mode::Full,
-                number: number + 1,
-                events,
-            }))
+    Event::Major {
+        number,
+        mode,
+        chosen,
+        moves,
+    }
+}
+
+/// What follows a planned major, which is told before its step is taken: so the state stays as it is where memory runs out.
+/// Behind a kept one the next is Full; a Full one that was refused is rolled back, and a Single one follows from the same
+/// state; a refusal of that one, and a row without an entering variable, end the walk.
+fn follow<T: Teller>(state: State, mode: Mode, tried: u64, plan: Plan, teller: &mut T) -> Turned
+    requires { IsTakeable state plan }
+    ensures { FollowsPlan state mode tried (T.stands teller.old) (T.stands teller.new) (T.stopped teller.new) (T.faults teller.old) (T.faults teller.new) plan result }
+{
+    match plan {
+        Plan::Moves {
+            row,
+            step,
+            chosen,
+            moves,
+        } => {
+            let event = major_event(tried, mode, chosen, moves);
+            match teller.tell(&event) {
+                Ok(()) => Turned::GoesOn(Underway {
+                    state: state_behind(state, &row, step),
+                    mode: Mode::Full,
+                    tried,
+                }),
+                Err(Fault::Named(failed)) => end_in(
+                    state_behind(state, &row, step),
+                    tried,
+                    Err(Fault::Named(failed)),
+                ),
+                Err(Fault::OutOfMemory) => end_in(state, tried, Err(Fault::OutOfMemory)),
+            }
         }
-        MajorEnd::Stuck {
-            state,
-            event,
+        Plan::Stuck {
+            chosen,
+            moves,
             place,
             side,
             rho,
         } => {
-            events.push(event)?;
-            Ok(ended(WalkEnd::NoEntering { place, side, rho }, state, events))
-        }
-        MajorEnd::Refused { state, place } => match mode {
-            Mode::Full => {
-                events.push(Event::Rollback { number, place })?;
-                Ok(Turned::GoesOn(Underway {
-                    state,
-                    mode: Mode::Single,
-                    number: number + 1,
-                    events,
-                }))
+            let event = major_event(tried, mode, chosen, moves);
+            match teller.tell(&event) {
+                Ok(()) => end_in(state, tried, Ok(WalkEnd::NoEntering { place, side, rho })),
+                Err(fault) => end_in(state, tried, Err(fault)),
             }
-            Mode::Single => Ok(ended(WalkEnd::Overflow(place), state, events)),
+        }
+        Plan::Refused(place) => match mode {
+            Mode::Full => {
+                let event = Event::Rollback {
+                    number: tried,
+                    place,
+                };
+                match teller.tell(&event) {
+                    Ok(()) => Turned::GoesOn(Underway {
+                        state,
+                        mode: Mode::Single,
+                        tried,
+                    }),
+                    Err(fault) => end_in(state, tried, Err(fault)),
+                }
+            }
+            Mode::Single => end_in(state, tried, Ok(WalkEnd::Overflow(place))),
         },
     }
 }
 
 /// The end of a walk where no major is due, or what follows its next major.
-fn turn<L>(
+fn turn<T: Teller, L>(
     alloc: Global,
     form: &Form,
     options: &Options,
     walk: Underway,
+    teller: &mut T,
     steps: &mut Steps<L>,
-) -> Result<Turned, OutOfMemory>
+) -> Turned
     requires options { IsOptions options.now }
     requires one_row { IsOneRow options.now }
     requires ready { IsReady form.now options.now.limit walk.state }
-    requires number { walk.number + 1 < 2 ^ 64 }
-    ensures { IfOk result (λ turned. (first : MethodState) → IsUnderway form.now options.now first walk.state walk.mode walk.number walk.events.items
-        → FollowsTurn form.now options.now first walk.state walk.mode walk.number turned) }
+    requires number { walk.tried + 1 < 2 ^ 64 }
+    ensures { (tried : ℕ) (first : MethodState) (events : List Event) → IsUnderway form.now options.now tried first walk.state walk.mode walk.tried events
+        → FollowsTurn form.now options.now tried first events walk.state walk.mode walk.tried (T.stands teller.old) (T.stands teller.new) (T.stopped teller.new) (T.faults teller.old) (T.faults teller.new) result }
 {
-    let Underway {
-        state,
-        mode,
-        number,
-        events,
-    } = walk;
+    let Underway { state, mode, tried } = walk;
     let infeasible = has_infeasible(
         state.head.as_slice(),
         form.bounds.as_slice(),
         state.values.as_slice(),
     );
     if !infeasible {
-        return Ok(ended(WalkEnd::Optimal, state, events));
+        return end_in(state, tried, Ok(WalkEnd::Optimal));
     }
     if state.pivots == options.limit {
-        return Ok(ended(WalkEnd::Limit, state, events));
+        return end_in(state, tried, Ok(WalkEnd::Limit));
     }
-    let end = major(alloc, form, state, mode, number, options, steps)?;
-    follow(end, mode, number, events)
+    match plan_major(alloc, form, &state, options, steps) {
+        Ok(plan) => follow(state, mode, tried + 1, plan, teller),
+        Err(_) => end_in(state, tried + 1, Err(Fault::OutOfMemory)),
+    }
 }
 
-/// Walks from a state without a factor: majors of one row, until no place is infeasible, the limit of pivots is met, a row
-/// has no entering variable, or an operation of a Single major doesn't fit. A kept major takes a pivot, and one that is rolled
-/// back is followed by a Single one, so the limit ends every walk.
-///
-/// # Errors
-///
-/// `OutOfMemory` alone.
-pub fn drive<L>(
+/// `drive` with the state handed in and back.
+fn drive_from<T: Teller, L>(
     alloc: Global,
     form: &Form,
     first: State,
+    tried: u64,
     options: &Options,
+    teller: &mut T,
     steps: &mut Steps<L>,
-) -> Result<Walked, OutOfMemory>
+) -> Ended
     requires options { IsOptions options.now }
     requires one_row { IsOneRow options.now }
     requires ready { IsReady form.now options.now.limit first }
-    // The last state is dual feasible and solved afresh, as the first one.
-    ensures ready { IfOk result (λ w. IsReady form.now options.now.limit w.state) }
-    ensures row { IfOk result (λ w. IsRowOfEnd form.now w.end) }
-    ensures walked { IfOk result (λ w. IsWalked (form_of form.now) options.now (walk_state first None) w.end w.state w.events) }
+    requires number { tried ≤ 2 ^ 62 }
+    ensures walked { EndsSo form.now options.now tried (walk_state first None) [] result.state result.tried (T.stands teller.old) (T.stands teller.new) (T.stopped teller.new) (T.faults teller.old) (T.faults teller.new) result.outcome }
+    ensures few { IfOk result.outcome (λ _. result.tried ≤ tried + (2 * options.now.limit + 2)) }
 {
     let mut walk = Underway {
         state: first,
         mode: Mode::Full,
-        number: 1,
-        events: Vec::new(alloc),
+        tried,
     };
     loop {
-        match turn(alloc, form, options, walk, steps)? {
-            Turned::Ends(walked) => return Ok(walked),
+        match turn(alloc, form, options, walk, teller, steps) {
+            Turned::Ends(ended) => return ended,
             Turned::GoesOn(next) => walk = next,
         }
     }
+}
+
+/// Walks from a state: majors of one row, until no place is infeasible, the limit of pivots is met, a row has no entering
+/// variable, or an operation of a Single major doesn't fit. Majors are numbered behind `tried`, which counts each. A kept
+/// major takes a pivot, and one that is rolled back is followed by a Single one, so the limit ends every walk.
+///
+/// # Errors
+///
+/// `TellFailed` only where the teller's count rose; the state is that of the last kept major, told or not. `OutOfMemory` where
+/// memory runs out; the state is that of the last kept major that was told.
+pub fn drive<T: Teller, L>(
+    alloc: Global,
+    form: &Form,
+    state: &mut State,
+    tried: &mut u64,
+    options: &Options,
+    teller: &mut T,
+    steps: &mut Steps<L>,
+) -> Result<WalkEnd, Fault<TellFailed>>
+    requires options { IsOptions options.now }
+    requires one_row { IsOneRow options.now }
+    requires ready { IsReady form.now options.now.limit state.old }
+    requires number { tried.old ≤ 2 ^ 62 }
+    // The walk from the first state, and what the teller was told of it.
+    ensures walked { EndsSo form.now options.now tried.old (walk_state state.old None) [] state.new tried.new (T.stands teller.old) (T.stands teller.new) (T.stopped teller.new) (T.faults teller.old) (T.faults teller.new) result }
+    // Each kept major takes a pivot, and each that is rolled back is followed by a Single one.
+    ensures few { IfOk result (λ _. tried.new ≤ tried.old + (2 * options.now.limit + 2)) }
+{
+    let first = mem::replace(state, no_state(alloc));
+    let ended = drive_from(alloc, form, first, *tried, options, teller, steps);
+    *state = ended.state;
+    *tried = ended.tried;
+    ended.outcome
 }

@@ -1,25 +1,8 @@
-use Rattle.std.proofs.Common.{◌≡◌, ◌<◌, IfOk, Result, Ok, Err, ℕ, length, All, List, sym, ap, ◌∙◌, subst, arith}
-use Rattle.pami_algebra.specs.Fraction.{Fraction}
+use Rattle.std.proofs.Common.{◌≡◌, ◌<◌, ◌+◌, ℕ, length, All, List, sym, ap, ◌∙◌, subst, arith}
 use Rattle.pami_frac.specs.declared.list.Bounds.{Bounds}
-use Rattle.pami_major.specs.Within.{AreWithin, IsSomeOutside}
-use Rattle.pami_major.specs.Walks.{FollowsTurn, FollowsEnd}
-use Rattle.pami_major.specs.declared.walk.Turned.{Turned}
-use Rattle.pami_major.proofs.Underway.{values_at_places, known_at_places, optimal_ends, limit_ends, end_follows}
+use Rattle.pami_major.specs.declared.walk.WalkEnd.TheVariants as ends
+use Rattle.pami_major.proofs.Underway.{values_at_places, known_at_places, within_of, outside_of, optimal_ends, limit_ends, ends_quietly, ends_short, takeable, plan_follows}
 use Rattle.pami_major.proofs.walk.turn.Goals as goal
-
-within_of : (head other : List ℕ) (bounds others : List Bounds) (values more : List Fraction) → head ≡ other → bounds ≡ others → values ≡ more
-    → AreWithin (length head) head bounds values → AreWithin (length other) other others more
-within_of head other bounds others values more h b v w =
-    subst (λ xs. AreWithin (length xs) xs others more) h (subst (λ (bs : List Bounds). AreWithin (length head) head bs more) b (subst (λ (vs : List Fraction). AreWithin (length head) head bounds vs) v w))
-
-outside_of : (head other : List ℕ) (bounds others : List Bounds) (values more : List Fraction) → head ≡ other → bounds ≡ others → values ≡ more
-    → IsSomeOutside head bounds values → IsSomeOutside other others more
-outside_of head other bounds others values more h b v w =
-    subst (λ xs. IsSomeOutside xs others more) h (subst (λ (bs : List Bounds). IsSomeOutside head bs more) b (subst (λ (vs : List Fraction). IsSomeOutside head bounds vs) v w))
-
-each_ok : {T E : Type 0} (r : Result T E) (P Q : T → Type 0) → ((x : T) → P x → Q x) → IfOk r P → IfOk r Q
-each_ok (Ok x) P Q h k = h x k
-each_ok (Err e) P Q h k = tt
 
 pub has_infeasible-infeasible-requires-clause-values : goal.has_infeasible-infeasible-requires-clause-values
 has_infeasible-infeasible-requires-clause-values g c =
@@ -32,24 +15,33 @@ has_infeasible-infeasible-requires-clause-known g c =
     (known_at_places c.args.form.now c.args.options.now.limit c.args.walk.state c.args.form.now.kept c.requires.ready))
 
 pub returns-then-not-infeasible : goal.returns-then-not-infeasible
-returns-then-not-infeasible g c = λ first u.
-    subst (λ (t : Turned). FollowsTurn c.args.form.now c.args.options.now first c.args.walk.state c.args.walk.mode c.args.walk.number t) (sym c.ended.ensures)
-    (optimal_ends c.args.form.now c.args.options.now first c.args.walk.state c.args.walk.mode c.args.walk.number c.args.walk.events.items u
+returns-then-not-infeasible g c = λ tried first events u.
+    ends_quietly c.args.form.now c.args.options.now tried first c.args.walk.state c.args.walk.mode c.args.walk.tried events
+    (g.T.Teller.stands c.args.teller.now) (g.T.Teller.stopped c.args.teller.now) (g.T.Teller.faults c.args.teller.now) ends.Optimal c.end_in.result c.end_in.ensures
+    (optimal_ends c.args.form.now c.args.options.now tried first c.args.walk.state c.args.walk.mode c.args.walk.tried events u
     (within_of c.as_slice.result.now c.args.walk.state.head c.as_slice-2.result.now c.args.form.now.bounds c.as_slice-3.result.now c.args.walk.state.values c.as_slice.ensures c.as_slice-2.ensures c.as_slice-3.ensures
     (c.has_infeasible-infeasible.ensures.none c.if-not-infeasible.true)))
 
 pub returns-then-state-options : goal.returns-then-state-options
-returns-then-state-options g c = λ first u.
-    subst (λ (t : Turned). FollowsTurn c.args.form.now c.args.options.now first c.args.walk.state c.args.walk.mode c.args.walk.number t) (sym c.ended-then-state-options.ensures)
-    (limit_ends c.args.form.now c.args.options.now first c.args.walk.state c.args.walk.mode c.args.walk.number c.args.walk.events.items u
+returns-then-state-options g c = λ tried first events u.
+    ends_quietly c.args.form.now c.args.options.now tried first c.args.walk.state c.args.walk.mode c.args.walk.tried events
+    (g.T.Teller.stands c.args.teller.now) (g.T.Teller.stopped c.args.teller.now) (g.T.Teller.faults c.args.teller.now) ends.Limit c.end_in-then-state-options.result c.end_in-then-state-options.ensures
+    (limit_ends c.args.form.now c.args.options.now tried first c.args.walk.state c.args.walk.mode c.args.walk.tried events u
     (outside_of c.as_slice.result.now c.args.walk.state.head c.as_slice-2.result.now c.args.form.now.bounds c.as_slice-3.result.now c.args.walk.state.values c.as_slice.ensures c.as_slice-2.ensures c.as_slice-3.ensures
     (c.has_infeasible-infeasible.ensures.some c.if-not-infeasible.false))
     c.if-state-options.true)
 
-pub returns : goal.returns
-returns g c =
+pub follow-requires : goal.follow-requires
+follow-requires g c = takeable c.args.form.now c.args.options.now (c.args.walk.tried + 1) c.args.walk.mode c.args.walk.state c.in-Ok.plan (c.in-Ok.ensures.planned (c.args.walk.tried + 1) c.args.walk.mode)
+
+pub returns-in-Ok : goal.returns-in-Ok
+returns-in-Ok g c = λ tried first events u.
     let below : c.args.walk.state.pivots < c.args.options.now.limit = (let l = c.requires.ready.within in let n = c.if-state-options.false in omega arith) in
-    each_ok c.follow.result (λ turned. FollowsEnd c.in_ok-end.end c.args.walk.mode c.args.walk.number c.args.walk.events.items turned) _
-    (λ turned h first u.
-    end_follows c.args.form.now c.args.options.now first c.args.walk.state c.args.walk.mode c.args.walk.number c.args.walk.events.items c.in_ok-end.end turned u below c.in_ok-end.ensures.majored h)
-    c.follow.ensures
+    plan_follows c.args.form.now c.args.options.now tried first c.args.walk.state c.args.walk.mode c.args.walk.tried events
+    (g.T.Teller.stands c.args.teller.now) (g.T.Teller.stands c.follow.new.teller) (g.T.Teller.stopped c.follow.new.teller) (g.T.Teller.faults c.args.teller.now) (g.T.Teller.faults c.follow.new.teller) c.in-Ok.plan c.follow.result
+    c.requires.options.some_row u below (c.in-Ok.ensures.planned (c.args.walk.tried + 1) c.args.walk.mode) c.follow.ensures
+
+pub returns-in-Err : goal.returns-in-Err
+returns-in-Err g c = λ tried first events u.
+    ends_short c.args.form.now c.args.options.now tried first c.args.walk.state c.args.walk.mode c.args.walk.tried (c.args.walk.tried + 1) events
+    (g.T.Teller.stands c.args.teller.now) (g.T.Teller.stopped c.args.teller.now) (g.T.Teller.faults c.args.teller.now) c.end_in-in-Err.result c.end_in-in-Err.ensures c.requires.options.some_row u
