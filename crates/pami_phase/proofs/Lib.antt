@@ -1,0 +1,13 @@
+pub mod Sides
+pub mod Solved
+pub mod Restood
+pub mod Feasible
+pub mod Histories
+pub mod Starting
+pub mod Further
+pub mod Beginnings
+pub mod WalkAnswers
+pub mod BoxesEnds
+pub mod Switching
+pub mod Opening
+pub mod Certified

@@ -1,0 +1,4 @@
+pub mod Switches
+pub mod Histories
+pub mod Starts
+pub mod Runs
