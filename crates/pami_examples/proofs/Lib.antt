@@ -10,4 +10,5 @@ pub mod StoppingRun
 pub mod RefusingRun
 pub mod OverflowingRun
 pub mod SwitchingRun
+pub mod ContinuingRun
 pub mod UnboundedRun

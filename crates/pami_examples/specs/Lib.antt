@@ -8,4 +8,5 @@ pub mod Stopping
 pub mod Refusing
 pub mod Overflowing
 pub mod Switching
+pub mod Continuing
 pub mod Unbounded

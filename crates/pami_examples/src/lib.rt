@@ -9,6 +9,7 @@
 #![tactic(auto)]
 
 pub mod blending;
+pub mod continuing;
 pub mod dropping;
 pub mod flipping;
 pub mod overflowing;

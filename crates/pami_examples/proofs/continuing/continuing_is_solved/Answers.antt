@@ -1,0 +1,5 @@
+use Rattle.pami_examples.proofs.ContinuingRun.{continuing_run, continuing_written}
+use Rattle.pami_examples.proofs.continuing.continuing_is_solved.Goals as goal
+
+pub returns : goal.returns
+returns c = record { run = continuing_run; written = continuing_written }
