@@ -1,6 +1,6 @@
 -- What a model is answered from the end of its walk.
 use Rattle.std.specs.Result.{IfOk}
-use Rattle.std.proofs.Common.{◌≡◌, ℕ, List, Result, Ok, Err, ◌∷◌, ◌++◌, refl, sym, ap, ◌∙◌, subst, codes}
+use Rattle.std.proofs.Common.{◌≡◌, ◌<◌, arith, ℕ, List, Result, Ok, Err, ◌∷◌, ◌++◌, refl, sym, ap, ◌∙◌, subst, codes}
 use Rattle.pami_algebra.specs.Fraction.{Fraction}
 use Rattle.pami_model.specs.Contents.{Contents}
 use Rattle.pami_frac.specs.declared.list.Bounds.{Bounds}
@@ -26,29 +26,29 @@ use Rattle.pami_cli.specs.declared.status.Status.{Status}
 use Rattle.pami_model_form.specs.ModelForm.{model_form}
 use Rattle.pami_model_form.specs.Named.{named_of}
 use Rattle.pami_cli.specs.Text.{begun_text, optimal_text, limit_text}
-use Rattle.pami_cli.specs.Solved.{IsStart, CanWalk}
-use Rattle.pami_major.specs.Walks.{IsTold, IsWalked}
+use Rattle.pami_cli.specs.Solved.{IsStart, CanWalk, IsWholeWalk}
+use Rattle.pami_major.specs.Walks.{IsTold}
 use Rattle.pami_cli.specs.Answer.{options_of, HasStatus, AnswersRun}
 use Rattle.pami_cli.proofs.Started.{walk_answers, uncrossed_model}
 
 module _ (c : Contents) (limit : ℕ) (can : CanWalk (model_form c)) (events : List Event) (last : State) where
   abbrev pub IsFrom : WalkEnd → Type 0
-  IsFrom told = IsWalked (model_form c) (options_of limit) (starting_state (model_form c)) told last events
+  IsFrom told = IsWholeWalk (model_form c) (options_of limit) (starting_state (model_form c)) told last events
 
   -- with this answer of the walk's end
-  ended : (told : WalkEnd) (w : IsFrom told) (a : Answer) (status : Status) (written : List ℕ) → IsAnswer (model_form c) w.end a → HasStatus a status → written ≡ begun_text c events ++ text (answer_lines (named_of c) a) → AnswersRun c limit status written
+  ended : (told : WalkEnd) (w : IsFrom told) (a : Answer) (status : Status) (written : List ℕ) → IsAnswer (model_form c) w.1.end a → HasStatus a status → written ≡ begun_text c events ++ text (answer_lines (named_of c) a) → AnswersRun c limit status written
   ended told w a status written i k e =
-      walk_answers c limit (model_form c) refl can.uncrossed can.fresh w.majors w.end a status events written can.fresh_is can.fits can.feasible w.walk w.told_events i k e
+      walk_answers c limit (model_form c) refl can.uncrossed can.fresh w.1.majors w.1.end a status events written can.fresh_is can.fits can.feasible w.1.walk w.1.told_events i k e
 
   optimal_end : (solved : IsSolvedAfresh (model_form c) last) (end : walk.WalkEnd) → IsTold ends.Optimal last end → (st : walk.State) × (end ≡ walk.Optimal st) × (st.basis ≡ basis_of last)
-  optimal_end solved (walk.Optimal st) h = (st, refl, h)
+  optimal_end solved (walk.Optimal st) h = (st, refl, h.0)
   optimal_end solved (walk.Limit st) h = absurd h
   optimal_end solved (walk.NoEntering p s row) h = absurd h
   optimal_end solved (walk.Overflow refused) h = absurd h
 
   pub optimal_ended : (solved : IsSolvedAfresh (model_form c) last) (written : List ℕ) → written ≡ begun_text c events ++ optimal_text c solved.fresh.values solved.fresh.reduced (basis_of last) → IsFrom ends.Optimal → AnswersRun c limit statuses.Good written
   optimal_ended solved written e w =
-      let t = optimal_end solved w.end w.told_end in
+      let t = optimal_end solved w.1.end w.1.told_end in
       ended ends.Optimal w (Optimal t.0 solved.fresh) statuses.Good written
       (subst (λ end. IsAnswer (model_form c) end (Optimal t.0 solved.fresh)) (sym t.1) (solved.fresh, subst (λ b. IsFresh (model_form c) b solved.fresh) (sym t.2) solved.solved, refl)) refl
       (e ∙ ap (λ b. begun_text c events ++ optimal_text c solved.fresh.values solved.fresh.reduced b) (sym t.2))
@@ -61,7 +61,7 @@ module _ (c : Contents) (limit : ℕ) (can : CanWalk (model_form c)) (events : L
 
   pub limit_ended : (written : List ℕ) → written ≡ begun_text c events ++ limit_text c last.pivots (basis_of last) → IsFrom ends.Limit → AnswersRun c limit statuses.Limit written
   limit_ended written e w =
-      let t = limit_end w.end w.told_end in
+      let t = limit_end w.1.end w.1.told_end in
       ended ends.Limit w (Limit t.0) statuses.Limit written (subst (λ end. IsAnswer (model_form c) end (Limit t.0)) (sym t.1) refl) refl
       (e ∙ ap (λ b. begun_text c events ++ limit_text c last.pivots b) (sym t.2) ∙ ap (λ n. begun_text c events ++ limit_text c n t.0.basis) (sym t.3))
 
@@ -73,7 +73,7 @@ module _ (c : Contents) (limit : ℕ) (can : CanWalk (model_form c)) (events : L
 
   pub infeasible_ended : (place : ℕ) (side : Side) (rho : List Fraction) (written : List ℕ) → written ≡ begun_text c events ++ text (answer_lines (named_of c) (Infeasible (ray side rho))) → IsFrom (ends.NoEntering place side rho) → AnswersRun c limit statuses.Infeasible written
   infeasible_ended place side rho written e w =
-      let t = infeasible_end place side rho w.end w.told_end in
+      let t = infeasible_end place side rho w.1.end w.1.told_end in
       ended (ends.NoEntering place side rho) w (Infeasible (ray side rho)) statuses.Infeasible written (subst (λ end. IsAnswer (model_form c) end (Infeasible (ray side rho))) (sym t.1) refl) refl e
 
   overflow_end : (place : Place) (end : walk.WalkEnd) → IsTold (ends.Overflow place) last end → (r : Place) × (end ≡ walk.Overflow r) × (place ≡ r)
@@ -89,9 +89,13 @@ module _ (c : Contents) (limit : ℕ) (can : CanWalk (model_form c)) (events : L
 
   pub overflow_ended : (place : Place) (written : List ℕ) → written ≡ begun_text c events ++ line (codes "answer" ∷ codes "overflow" ∷ refused_words place) → IsFrom (ends.Overflow place) → AnswersRun c limit statuses.Overflow written
   overflow_ended place written e w =
-      let t = overflow_end place w.end w.told_end in
+      let t = overflow_end place w.1.end w.1.told_end in
       ended (ends.Overflow place) w (Overflow t.0) statuses.Overflow written (subst (λ end. IsAnswer (model_form c) end (Overflow t.0)) (sym t.1) refl) refl
       (e ∙ ap (λ z. begun_text c events ++ z) (overflow_line place t.0 t.2))
+
+-- a count that stays 0 doesn't rise
+pub nothing_below : 0 < 0 → ⊥
+nothing_below l = omega arith
 
 -- a walk from the start of lists, told with the events that were lent
 module _ (c : Contents) (limit : ℕ) (cs : List (List Fraction)) (bs : List Bounds) (ds : List Fraction) (form : IsForm cs bs ds) (is : form_by cs bs ds ≡ model_form c) where
@@ -107,11 +111,11 @@ module _ (c : Contents) (limit : ℕ) (cs : List (List Fraction)) (bs : List Bou
       }
 
   pub walked_model : (st last : State) (end : WalkEnd) (events lent : List Event) (r : Result Answered OutOfMemory) → IsStart (model_form c) st → IsDualFeasible (model_form c) (starting_basis (model_form c)) →
-      IsWalked (form_by cs bs ds) (options_of limit) (starting_state (form_by cs bs ds)) end last events → lent ≡ events →
-      IfOk r (λ a. (limit : ℕ) → CanWalk (model_form c) → IsWalked (model_form c) (options_of limit) (starting_state (model_form c)) end last lent → AnswersRun c limit a.status a.text.items) →
+      IsWholeWalk (form_by cs bs ds) (options_of limit) (starting_state (form_by cs bs ds)) end last events → lent ≡ events →
+      IfOk r (λ a. (limit : ℕ) → CanWalk (model_form c) → IsWholeWalk (model_form c) (options_of limit) (starting_state (model_form c)) end last lent → AnswersRun c limit a.status a.text.items) →
       IfOk r (λ a. AnswersRun c limit a.status a.text.items)
   walked_model st last end events lent (Ok a) h d w e f =
       f limit (can_walk st h d)
-      (subst (IsWalked (model_form c) (options_of limit) (starting_state (model_form c)) end last) (sym e)
-      (subst (λ g. IsWalked g (options_of limit) (starting_state g) end last events) is w))
+      (subst (IsWholeWalk (model_form c) (options_of limit) (starting_state (model_form c)) end last) (sym e)
+      (subst (λ g. IsWholeWalk g (options_of limit) (starting_state g) end last events) is w))
   walked_model st last end events lent (Err x) h d w e f = tt

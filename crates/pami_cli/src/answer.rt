@@ -11,8 +11,7 @@ ghost use Rattle.pami_lines.specs.Line.{line, text};
 ghost use Rattle.pami_lines.specs.Head.{head_lines};
 ghost use Rattle.pami_text.specs.Record.{refused_words};
 ghost use Rattle.pami_model_form.specs.Named.{counts_of};
-ghost use Rattle.pami_major.specs.Walks.{IsWalked};
-ghost use Rattle.pami_cli.specs.Solved.{IsReadable, CanWalk};
+ghost use Rattle.pami_cli.specs.Solved.{IsReadable, CanWalk, IsWholeWalk};
 ghost use Rattle.pami_cli.specs.Answer.{options_of, AnswersRun};
 
 use crate::print::{begun, push_infeasible, push_limit, push_optimal, push_overflow};
@@ -69,7 +68,7 @@ pub fn ended_answer(
     requires readable { IsReadable (model_form (contents model.now)) bounds.now state.now }
     requires row { (place : ℕ) (side : Side) (rho : List Fraction) → end.now ≡ WalkEnd.NoEntering place side rho → length (contents model.now).rows ≡ length rho }
     ensures { IfOk result (λ a. (limit : ℕ) → CanWalk (model_form (contents model.now))
-        → IsWalked (model_form (contents model.now)) (options_of limit) (starting_state (model_form (contents model.now))) end.now state.now events.now
+        → IsWholeWalk (model_form (contents model.now)) (options_of limit) (starting_state (model_form (contents model.now))) end.now state.now events.now
         → AnswersRun (contents model.now) limit a.status a.text.items) }
 {
     let mut text = begun(alloc, model, events)?;

@@ -15,6 +15,7 @@ use crate::refuse::refused_width;
 use crate::status::Status;
 use pami_form::{Form, form_of};
 use pami_frac::{Fault, OutOfMemory};
+use pami_log::ListTeller;
 use pami_lu::Steps;
 use pami_major::{Options, drive};
 use pami_model::Model;
@@ -40,17 +41,32 @@ fn walk_answer(
         refactor: 0,
         limit,
     };
+    let mut last = state;
+    let mut tried = 0;
+    let mut teller = ListTeller::new(alloc)?;
     // Nobody asks for the count.
     let mut steps = Steps::<()>::new();
-    let walked = drive(alloc, form, state, &options, &mut steps)?;
-    ended_answer(
+    match drive(
         alloc,
-        model,
-        form.bounds.as_slice(),
-        &walked.state,
-        &walked.end,
-        walked.events.as_slice(),
-    )
+        form,
+        &mut last,
+        &mut tried,
+        &options,
+        &mut teller,
+        &mut steps,
+    ) {
+        Ok(end) => ended_answer(
+            alloc,
+            model,
+            form.bounds.as_slice(),
+            &last,
+            &end,
+            teller.events(),
+        ),
+        // The count of a list stays 0.
+        Err(Fault::Named(_)) => unreachable!(),
+        Err(Fault::OutOfMemory) => Err(OutOfMemory),
+    }
 }
 
 /// What a model of this form is answered, with at most `limit` pivots.
