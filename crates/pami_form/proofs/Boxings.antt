@@ -1,21 +1,18 @@
 -- The form of phase one keeps what a form keeps, and none of its widths is refused.
 use Rattle.pami_algebra.proofs.Order.{le_trans_f}
-use Rattle.std.proofs.Common.{◌≡◌, ℕ, suc, ◌<◌, List, [], ◌∷◌, length, map, take, get_or, Option, None, Some, Err, refl, sym, ap, ◌∙◌, subst}
-use Rattle.std.specs.List.{All}
+use Rattle.std.proofs.Common.{◌≡◌, ℕ, suc, ◌<◌, List, [], ◌∷◌, length, map, take, Option, None, Some, Err, refl, sym, ap, ◌∙◌, subst}
 use Rattle.std.proofs.lemmas.Option.{none-some}
-use Rattle.std.proofs.lemmas.List.{length-map, map_more}
-use Rattle.std.proofs.lemmas.List.Elements.{All-map, All-head, All-tail}
+use Rattle.std.proofs.lemmas.List.{length-map}
 use lib.IntN.{pos, negsuc}
 use Rattle.pami_algebra.specs.Fraction.{Fraction, gcd}
-use Rattle.pami_algebra.specs.Operations.{of_int, neg_f, ◌+ᶠ◌, ◌≤ᶠ◌}
+use Rattle.pami_algebra.specs.Operations.{of_int, neg_f, ◌+ᶠ◌}
 use Rattle.pami_frac.specs.Arithmetic.{add_fits, add_outcome, sub_outcome}
 use Rattle.pami_frac.specs.declared.list.Bounds.{Bounds}
 use Rattle.pami_theory.specs.Form.{Form, limits, variables, zero_f, IsUncrossed}
 use Rattle.pami_theory.specs.Boxes.{between, box_by, box, boxes_of}
-use Rattle.pami_theory.specs.Violation.{width}
 use Rattle.pami_theory.proofs.Boxed.{zero_feasible}
 use Rattle.pami_method.specs.Task.{refusal}
-use Rattle.pami_state.specs.Columns.{rows_of, columns_of, form_by, IsForm}
+use Rattle.pami_state.specs.Columns.{rows_of, columns_of, form_by}
 use Rattle.pami_state.proofs.Formed.{variables_are}
 use Rattle.pami_form.specs.Form.{KeepsForm, widths_of}
 use Rattle.pami_frac.specs.declared.fault.Fault.{Fault}

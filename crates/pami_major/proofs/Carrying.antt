@@ -8,7 +8,7 @@ use Rattle.pami_method.specs.declared.words.Options.{Options}
 use Rattle.pami_method.specs.Walk as method
 use Rattle.pami_form.specs.declared.form.Form.{Form}
 use Rattle.pami_state.specs.declared.state.State.{State}
-use Rattle.pami_major.specs.Ready.{form_of, IsReady}
+use Rattle.pami_major.specs.Ready.{IsReady}
 use Rattle.pami_major.specs.Within.{AreWithin, IsSomeOutside}
 use Rattle.pami_major.specs.Walks.{Planned}
 use Rattle.pami_major.specs.EndsMajor.{EndsMajor, CarriesOut}

@@ -27,7 +27,6 @@ use Rattle.pami_theory.specs.Form as theory
 use Rattle.pami_theory.specs.Form.{variables, limits, coefficient, zero_f}
 use Rattle.pami_theory.specs.declared.words.Stand.{Stand}
 use Rattle.pami_theory.specs.declared.words.Stand.TheVariants.{Basic, Lower, Upper, Zero}
-use Rattle.pami_theory.specs.Basis as basis
 use Rattle.pami_theory.specs.Basis.{Basis, head_at, stand_at, StandsAt, IsBasis, basis_column}
 use Rattle.pami_theory.specs.Fresh.{Fresh, IsFresh, row_at, column_at, value_at_place, standing_value}
 use Rattle.pami_theory.specs.Violation.{passed_bound, value_or_zero, width}

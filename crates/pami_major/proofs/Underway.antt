@@ -4,7 +4,6 @@ use Rattle.std.specs.List.{All}
 use Rattle.std.specs.Result.{IfOk}
 use Rattle.std.proofs.lemmas.List.{get_or_default}
 use Rattle.std.proofs.lemmas.List.Elements.{All-get_or}
-use Rattle.std.proofs.Math.ListN.{get_or-map}
 use Rattle.pami_algebra.specs.Fraction.{Fraction}
 use Rattle.pami_linear.specs.Lists.{get}
 use Rattle.pami_frac.specs.declared.list.Bounds.{Bounds}

@@ -28,8 +28,8 @@ use Rattle.pami_log.specs.Events.{events_of}
 use Rattle.pami_major.specs.Walks.{BeginsWalk}
 use Rattle.pami_phase.specs.declared.answer.Answer.{Answer}
 use Rattle.pami_phase.specs.declared.answer.Answer.TheVariants as answers
-use Rattle.pami_phase.specs.Histories.{without, with_new, SameEnd}
-use Rattle.pami_phase.specs.Runs.{IsAnswerOf, IsRunBehind, BeginsRun, Starts, StartsInBoxes, LeadsOn, boxes_events, EndsInBoxes}
+use Rattle.pami_phase.specs.Histories.{without, SameEnd}
+use Rattle.pami_phase.specs.Runs.{IsAnswerOf, BeginsRun, Starts, StartsInBoxes, LeadsOn, boxes_events, EndsInBoxes}
 use Rattle.pami_phase.proofs.Further.{begins_front}
 use Rattle.pami_phase.proofs.Histories.{same_walk}
 

@@ -1,10 +1,9 @@
 -- What phase one comes to, by the end of its walk in the boxes.
-use Rattle.std.proofs.Common.{◌≡◌, ◌<◌, ◌+◌, ◌≤◌, ℕ, List, [], ◌∷◌, ◌++◌, length, None, Result, Ok, Err, refl, sym, ap, ◌∙◌, subst, append-nil, arith}
+use Rattle.std.proofs.Common.{◌≡◌, ◌+◌, ◌≤◌, ℕ, List, [], ◌∷◌, ◌++◌, length, None, Result, Ok, Err, refl, sym, ap, ◌∙◌, subst, append-nil, arith}
 use Rattle.pami_algebra.specs.Fraction.{Fraction}
 use Rattle.pami_frac.specs.declared.fault.Fault.{Fault}
 use Rattle.pami_frac.specs.declared.fault.Fault.TheVariants as faults
 use Rattle.pami_theory.specs.Form as theory
-use Rattle.pami_theory.specs.Fresh.{Fresh, IsFresh}
 use Rattle.pami_theory.specs.declared.words.Side.{Side}
 use Rattle.pami_theory.specs.Boxes.{boxes_of}
 use Rattle.pami_method.specs.declared.words.Mode.TheVariants.{Full}
@@ -16,20 +15,19 @@ use Rattle.pami_method.specs.Phases.{IsPhaseOne, IsEarlyAnswer, starting_state, 
 use Rattle.pami_method.proofs.Answers.{phase_one_enters}
 use Rattle.pami_form.specs.declared.form.Form.{Form}
 use Rattle.pami_state.specs.declared.state.State.{State}
-use Rattle.pami_state.specs.State.{basis_of}
 use Rattle.pami_log.specs.declared.event.Event.{Event}
 use Rattle.pami_log.specs.declared.event.Event.TheVariants as told
 use Rattle.pami_log.specs.declared.teller.TellFailed.{TellFailed}
 use Rattle.pami_log.specs.Tellers.{GoesOn}
 use Rattle.pami_log.specs.Events.{events_of}
-use Rattle.pami_major.specs.Ready.{form_of, IsReady}
+use Rattle.pami_major.specs.Ready.{form_of}
 use Rattle.pami_major.specs.declared.walk.WalkEnd.{WalkEnd}
 use Rattle.pami_major.specs.declared.walk.WalkEnd.TheVariants as ends
 use Rattle.pami_major.specs.Walks.{walk_state, IsWalked, BeginsWalk, EndsSo}
 use Rattle.pami_phase.specs.declared.answer.Answer.{Answer}
 use Rattle.pami_phase.specs.declared.answer.Answer.TheVariants as answers
 use Rattle.pami_phase.specs.Starts.{IsStart}
-use Rattle.pami_phase.specs.Runs.{IsAnswerOf, IsRunBehind, BeginsRun, EndsRun, StartsInBoxes, boxes_events, IsBoxesEnd}
+use Rattle.pami_phase.specs.Runs.{IsAnswerOf, BeginsRun, EndsRun, StartsInBoxes, boxes_events, IsBoxesEnd}
 use Rattle.pami_phase.proofs.Starting.{start_state, starts_of}
 use Rattle.pami_phase.proofs.Further.{begins_front, told_further}
 use Rattle.pami_phase.proofs.Beginnings.{phase_one_begins}

@@ -1,5 +1,5 @@
 -- The values of an answer are its certificate.
-use Rattle.std.proofs.Common.{◌≡◌, ◌<◌, ℕ, List, length, Result, Ok, Err, sym, ap, ◌∙◌, subst}
+use Rattle.std.proofs.Common.{◌≡◌, ◌<◌, ℕ, List, length, Result, Ok, Err, sym, subst}
 use Rattle.std.specs.Result.{IfOk}
 use Rattle.pami_linear.specs.Lists.{get}
 use Rattle.pami_frac.specs.declared.fault.Fault.{Fault}

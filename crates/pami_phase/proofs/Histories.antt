@@ -11,8 +11,8 @@ use Rattle.pami_method.specs.declared.words.Options.{Options}
 use Rattle.pami_method.specs.Scripts.{choose_script}
 use Rattle.pami_method.specs.Factor.{History, elimination, unfit}
 use Rattle.pami_method.specs.Batch.{Turn, AtLimit, NoRow, Stuck, Pivots, turn}
-use Rattle.pami_method.specs.Work.{work, before_tasks, later_tasks, refused_or, first_refused, pivot_of}
-use Rattle.pami_method.specs.Walk.{State, Major, IsMajor, eliminates_anew, history_by, history_of, refused_in, state_after, WalkEnd, Optimal, Limit, NoEntering, Overflow, EndsAt, IsDue, After, Ends, GoesOn, refused_after, turn_after, after_by, after, GoesAfter, IsWalk}
+use Rattle.pami_method.specs.Work.{work, later_tasks, refused_or, first_refused, pivot_of}
+use Rattle.pami_method.specs.Walk.{State, Major, eliminates_anew, history_by, history_of, refused_in, state_after, WalkEnd, Optimal, Limit, NoEntering, Overflow, EndsAt, IsDue, After, GoesOn, refused_after, turn_after, after_by, GoesAfter, IsWalk}
 use Rattle.pami_phase.specs.Histories.{without, with_new, SameEnd}
 use Rattle.pami_log.specs.declared.event.Event.{Event}
 use Rattle.pami_log.specs.Events.{events_by, events_after, events_of}

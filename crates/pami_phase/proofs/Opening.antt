@@ -1,5 +1,5 @@
 -- What a run is answered before its first walk.
-use Rattle.std.proofs.Common.{◌≡◌, ℕ, List, [], ◌∷◌, None, Some, Ok, refl, subst}
+use Rattle.std.proofs.Common.{◌≡◌, ℕ, List, [], ◌∷◌, Some, Ok, refl}
 use Rattle.pami_frac.specs.declared.arithmetic.Refused.{Refused}
 use Rattle.pami_theory.specs.Form.{Form}
 use Rattle.pami_theory.specs.Fresh.{Fresh, IsFresh}

@@ -1,14 +1,12 @@
 -- Where the variables stand on the form's own bounds, as they are listed.
-use Rattle.std.proofs.Common.{◌≡◌, ℕ, ◌+◌, ◌<◌, List, [], ◌∷◌, ◌++◌, length, map, get_or, None, refl, sym, ap, ◌∙◌, subst, arith}
+use Rattle.std.proofs.Common.{◌≡◌, ℕ, ◌+◌, ◌<◌, List, [], ◌∷◌, ◌++◌, length, map, get_or, None, sym, ap, ◌∙◌, arith}
 use Rattle.std.specs.List.{range_with_len}
 use Rattle.pami_algebra.specs.Fraction.{Fraction}
-use Rattle.pami_linear.specs.Lists.{get}
 use Rattle.pami_script.proofs.Loops.{get_is}
 use Rattle.pami_frac.specs.declared.list.Bounds.{Bounds}
 use Rattle.pami_theory.specs.declared.words.Stand.{Stand}
 use Rattle.pami_theory.specs.declared.words.Stand.TheVariants.{Zero}
 use Rattle.pami_theory.specs.Form.{limits}
-use Rattle.pami_theory.specs.Basis.{Basis}
 use Rattle.pami_theory.specs.Boxes.{switched_by, unless_basic, switched_stand, switched_basis}
 use Rattle.pami_state.specs.Columns.{bounds_form, form_by}
 use Rattle.pami_state.specs.State.{basis_of}

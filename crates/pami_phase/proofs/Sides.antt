@@ -1,5 +1,5 @@
 -- What the nonbasic variables take from the rows: the script, and its value.
-use Rattle.std.proofs.Common.{◌≡◌, ℕ, zero, suc, ◌+◌, ◌-◌, ◌<◌, ⊎_elim, List, [], ◌∷◌, length, map, refl, sym, ap, ◌∙◌, subst, arith, Bool, true, false, cond, Result, Ok, Err}
+use Rattle.std.proofs.Common.{◌≡◌, ℕ, zero, suc, ◌+◌, ◌-◌, ◌<◌, List, [], ◌∷◌, length, refl, sym, ap, ◌∙◌, subst, arith, Bool, true, false, cond, Result, Ok, Err}
 use Rattle.std.specs.List.{filter, range_with_len}
 use Rattle.std.proofs.lemmas.List.{get_or-replicate, length-replicate}
 use Rattle.pami_algebra.specs.Fraction.{Fraction}
@@ -20,7 +20,7 @@ use Rattle.pami_vec.specs.Scripts.{take_times_script}
 use Rattle.pami_theory.specs.Form.{Form, variables, limits, coefficient, zero_f}
 use Rattle.pami_theory.specs.declared.words.Stand.{Stand}
 use Rattle.pami_theory.specs.declared.words.Stand.TheVariants.{Basic, Lower, Upper, Zero}
-use Rattle.pami_theory.specs.Basis.{Basis, stand_at, StandsAt, IsBasis}
+use Rattle.pami_theory.specs.Basis.{Basis, stand_at, StandsAt}
 use Rattle.pami_theory.specs.Fresh.{Fresh, IsFresh, standing_value, nonbasic_sum}
 use Rattle.pami_theory.proofs.Places.{nonbasic_standing}
 use Rattle.pami_theory.proofs.Starts.{stands_one}

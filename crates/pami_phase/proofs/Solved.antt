@@ -1,7 +1,5 @@
 -- The values behind the switch are those of its basis, and what is refused is the script's first refusal.
-use Rattle.std.proofs.Common.{◌≡◌, ℕ, ◌<◌, List, [], ◌∷◌, length, map, refl, sym, ap, ◌∙◌, subst, Option, None, Some, Result, Ok, Err}
-use Rattle.std.specs.List.{range_with_len}
-use Rattle.std.proofs.lemmas.List.{length-map}
+use Rattle.std.proofs.Common.{◌≡◌, ℕ, ◌<◌, List, [], length, refl, sym, ap, ◌∙◌, subst, None, Result, Ok, Err}
 use Rattle.pami_algebra.specs.Fraction.{Fraction}
 use Rattle.pami_algebra.specs.Operations.{neg_f}
 use Rattle.pami_linear.specs.Lists.{get}
@@ -22,7 +20,7 @@ use Rattle.pami_factoring.specs.declared.kept.LuFault.TheVariants.{Singular, Ref
 use Rattle.pami_factoring.specs.Factor.{matrix_of, elimination_script, basis_columns}
 use Rattle.pami_factoring.specs.Solve.{forward_script, ColumnPivot}
 use Rattle.pami_factoring.proofs.Matrices.{head_singular}
-use Rattle.pami_theory.specs.Form.{Form, variables, zero_f}
+use Rattle.pami_theory.specs.Form.{zero_f}
 use Rattle.pami_theory.specs.Basis.{Basis, head_at, IsBasis, IsRegularBasis, basis_column}
 use Rattle.pami_theory.specs.Fresh.{Fresh, IsFresh, nonbasic_sum, value_at_place}
 use Rattle.pami_theory.proofs.Places.{spread, spread_basic, spread_values, values_only}
@@ -31,7 +29,7 @@ use Rattle.pami_theory.proofs.Tables.{tabled_length, tabled_at}
 use Rattle.pami_method.specs.Task.{refusal}
 use Rattle.pami_method.specs.Factor.{elimination, unfit, refusal_by}
 use Rattle.pami_method.specs.Phases.{switch_refused, first_of}
-use Rattle.pami_state.specs.Columns.{rows_of, form_by, IsForm}
+use Rattle.pami_state.specs.Columns.{form_by, IsForm}
 use Rattle.pami_state.specs.State.{basis_of, values_by_place, IsSolvedAfresh}
 use Rattle.pami_state.specs.declared.state.State.{State}
 use Rattle.pami_major.proofs.Laid.{matrix_is, regular_columns}

@@ -1,9 +1,6 @@
 -- What follows an optimal end of phase one: the test for its last basis, the switch, and where phase two goes on.
-use Rattle.std.proofs.Common.{◌≡◌, ◌↔◌, IsTrue, ◌<◌, ◌≤◌, ◌+◌, ℕ, List, [], ◌∷◌, ◌++◌, length, replicate, None, Some, Result, Ok, Err, refl, sym, ap, ◌∙◌, subst, append-nil, arith}
+use Rattle.std.proofs.Common.{◌≡◌, ◌≤◌, ℕ, List, [], ◌∷◌, ◌++◌, length, replicate, None, Some, Ok, refl, sym, ap, ◌∙◌, subst, append-nil, arith}
 use Rattle.std.proofs.lemmas.List.{length-replicate}
-use Rattle.pami_algebra.specs.Fraction.{Fraction}
-use Rattle.pami_frac.specs.declared.fault.Fault.{Fault}
-use Rattle.pami_frac.specs.declared.fault.Fault.TheVariants as faults
 use Rattle.pami_frac.specs.declared.arithmetic.Refused.{Refused}
 use Rattle.pami_theory.specs.Form as theory
 use Rattle.pami_theory.specs.Basis.{Basis, IsBasis, IsRegularBasis}
@@ -24,18 +21,15 @@ use Rattle.pami_state.specs.State.{basis_of, IsSolvedAfresh}
 use Rattle.pami_state.proofs.Formed.{has_bounds}
 use Rattle.pami_log.specs.declared.event.Event.{Event}
 use Rattle.pami_log.specs.declared.event.Event.TheVariants as told
-use Rattle.pami_log.specs.declared.teller.TellFailed.{TellFailed}
-use Rattle.pami_log.specs.Tellers.{GoesOn}
 use Rattle.pami_major.specs.Ready.{form_of, IsReady}
 use Rattle.pami_major.specs.Walks.{walk_state}
 use Rattle.pami_major.proofs.Underway.{values_at_places}
-use Rattle.pami_phase.specs.declared.answer.Answer.{Answer}
 use Rattle.pami_phase.specs.declared.answer.Answer.TheVariants as answers
 use Rattle.pami_phase.specs.Histories.{without}
-use Rattle.pami_phase.specs.Runs.{IsAnswerOf, IsRunBehind, BeginsRun, EndsRun, LeadsOn, boxes_events, EndsInBoxes, IsBoxesEnd, IsSwitchedFrom, IsSwitchable}
+use Rattle.pami_phase.specs.Runs.{BeginsRun, EndsRun, LeadsOn, boxes_events, EndsInBoxes, IsBoxesEnd, IsSwitchedFrom, IsSwitchable}
 use Rattle.pami_phase.proofs.Feasible.{same_reduced}
 use Rattle.pami_phase.proofs.Starting.{ones_are}
-use Rattle.pami_phase.proofs.Further.{told_further, short, answered}
+use Rattle.pami_phase.proofs.Further.{answered}
 use Rattle.pami_phase.proofs.Beginnings.{switch_leads, switch_begins, phase_one_begins}
 
 -- ---- the state that is moved to the form's own bounds

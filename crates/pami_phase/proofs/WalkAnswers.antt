@@ -1,12 +1,11 @@
 -- What phase two answers, by the end of its walk.
-use Rattle.std.proofs.Common.{◌≡◌, ◌<◌, ◌+◌, ℕ, List, [], ◌∷◌, ◌++◌, length, map, Result, Ok, Err, None, refl, sym, ap, ◌∙◌, subst, append-nil}
+use Rattle.std.proofs.Common.{◌≡◌, ℕ, List, [], ◌∷◌, ◌++◌, length, Ok, Err, None, refl, sym, ap, ◌∙◌, subst, append-nil}
 use Rattle.std.proofs.lemmas.List.{length-map}
 use Rattle.pami_algebra.specs.Fraction.{Fraction}
 use Rattle.pami_algebra.specs.Operations.{neg_f}
 use Rattle.pami_frac.specs.declared.fault.Fault.{Fault}
 use Rattle.pami_frac.specs.declared.fault.Fault.TheVariants as faults
 use Rattle.pami_theory.specs.Form as theory
-use Rattle.pami_theory.specs.Basis.{IsBasis}
 use Rattle.pami_theory.specs.Fresh.{IsFresh}
 use Rattle.pami_theory.specs.declared.words.Side.{Side}
 use Rattle.pami_theory.specs.declared.words.Side.TheVariants.{Above, Below}
@@ -21,14 +20,13 @@ use Rattle.pami_state.specs.State.{basis_of}
 use Rattle.pami_log.specs.declared.event.Event.{Event}
 use Rattle.pami_log.specs.declared.teller.TellFailed.{TellFailed}
 use Rattle.pami_log.specs.Tellers.{GoesOn}
-use Rattle.pami_log.specs.Events.{events_of}
 use Rattle.pami_major.specs.Ready.{form_of, IsReady}
 use Rattle.pami_major.specs.declared.walk.WalkEnd.{WalkEnd}
 use Rattle.pami_major.specs.declared.walk.WalkEnd.TheVariants as ends
-use Rattle.pami_major.specs.Walks.{walk_state, IsTold, IsWalked, IsWalkedWhole, EndsSo}
+use Rattle.pami_major.specs.Walks.{walk_state, IsTold, IsWalked, EndsSo}
 use Rattle.pami_phase.specs.declared.answer.Answer.{Answer}
 use Rattle.pami_phase.specs.declared.answer.Answer.TheVariants as answers
-use Rattle.pami_phase.specs.Runs.{IsLast, IsAnswerOf, IsRunBehind, BeginsRun, EndsRun, LeadsOn}
+use Rattle.pami_phase.specs.Runs.{IsAnswerOf, IsRunBehind, EndsRun, LeadsOn}
 use Rattle.pami_phase.proofs.Beginnings.{walk_begins}
 
 pub optimal_end : (last : State) (end : method.WalkEnd) → IsTold ends.Optimal last end → (st : method.State) × (end ≡ method.Optimal st) × (st.basis ≡ basis_of last) × (st.count ≡ last.pivots)

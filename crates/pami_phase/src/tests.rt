@@ -50,6 +50,7 @@ fn exactly(value: i128) -> Bounds {
 }
 
 /// A column of a model, with an entry for each row.
+#[derive(Clone, Copy)]
 struct Line<'a> {
     bounds: Bounds,
     cost: i64,

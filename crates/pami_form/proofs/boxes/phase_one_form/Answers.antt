@@ -1,4 +1,4 @@
-use Rattle.std.proofs.Common.{◌≡◌, ◌∙◌, sym, ap, subst, map, List}
+use Rattle.std.proofs.Common.{◌∙◌, sym, ap, subst, map, List}
 use Rattle.pami_algebra.specs.Fraction.{Fraction}
 use Rattle.pami_frac.specs.declared.list.Bounds.{Bounds}
 use Rattle.pami_theory.specs.Boxes.{box}

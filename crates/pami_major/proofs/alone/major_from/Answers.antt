@@ -1,4 +1,4 @@
-use Rattle.std.proofs.Common.{◌≡◌, ◌<◌, length, All, List, sym, ap, ◌∙◌, subst, arith}
+use Rattle.std.proofs.Common.{◌<◌, length, All, List, sym, ap, ◌∙◌, subst}
 use Rattle.pami_frac.specs.declared.list.Bounds.{Bounds}
 use Rattle.pami_method.specs.declared.words.Mode.TheVariants as modes
 use Rattle.pami_major.proofs.Underway.{values_at_places, known_at_places, takeable, within_of, outside_of}

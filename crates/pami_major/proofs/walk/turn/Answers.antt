@@ -1,4 +1,4 @@
-use Rattle.std.proofs.Common.{◌≡◌, ◌<◌, ◌+◌, ℕ, length, All, List, sym, ap, ◌∙◌, subst, arith}
+use Rattle.std.proofs.Common.{◌<◌, ◌+◌, length, All, List, sym, ap, ◌∙◌, subst, arith}
 use Rattle.pami_frac.specs.declared.list.Bounds.{Bounds}
 use Rattle.pami_major.specs.declared.walk.WalkEnd.TheVariants as ends
 use Rattle.pami_major.proofs.Underway.{values_at_places, known_at_places, within_of, outside_of, optimal_ends, limit_ends, ends_quietly, ends_short, takeable, plan_follows}

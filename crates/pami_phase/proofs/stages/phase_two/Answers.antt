@@ -1,5 +1,4 @@
-use Rattle.std.proofs.Common.{◌≡◌, [], None, Ok, sym, ap, ◌∙◌, subst}
-use Rattle.pami_method.specs.declared.words.Place.{Place}
+use Rattle.std.proofs.Common.{[], None, Ok, ap, ◌∙◌, subst}
 use Rattle.pami_theory.specs.declared.words.Side.{Side}
 use Rattle.pami_method.specs.Phases.{ray}
 use Rattle.pami_major.specs.declared.walk.WalkEnd.{WalkEnd}

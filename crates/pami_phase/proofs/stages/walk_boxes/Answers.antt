@@ -1,15 +1,11 @@
-use Rattle.std.proofs.Common.{◌≡◌, ◌≤◌, ◌+◌, ◌*◌, ◌^◌, ◌∷◌, [], None, Ok, Err, sym, ap, ◌∙◌, subst, arith}
+use Rattle.std.proofs.Common.{[], None, Ok, subst, arith}
 use Rattle.std.proofs.lemmas.Result.{err_from_is_err_and}
-use Rattle.pami_frac.specs.declared.fault.Fault.{Fault}
 use Rattle.pami_theory.specs.Boxes.{boxes_of}
 use Rattle.pami_theory.proofs.Boxed.{boxes_start}
 use Rattle.pami_state.proofs.Formed.{has_bounds}
-use Rattle.pami_log.specs.declared.event.Event.TheVariants as told
-use Rattle.pami_log.specs.declared.teller.TellFailed.{TellFailed}
 use Rattle.pami_major.specs.Ready.{form_of}
 use Rattle.pami_major.specs.declared.walk.WalkEnd.{WalkEnd}
 use Rattle.pami_major.specs.Walks.{walk_state, EndsSo}
-use Rattle.pami_phase.specs.Runs.{EndsRun}
 use Rattle.pami_phase.proofs.Starting.{start_ready}
 use Rattle.pami_phase.proofs.BoxesEnds.{never_stuck, limit_early, overflow_early, fault_exit, optimal_on}
 use Rattle.pami_phase.proofs.stages.walk_boxes.Goals as goal

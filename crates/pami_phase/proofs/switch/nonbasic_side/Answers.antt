@@ -1,4 +1,4 @@
-use Rattle.std.proofs.Common.{◌≡◌, ◌∙◌, ◌+◌, ◌<◌, ℕ, List, length, true, false, refl, sym, ap, subst, arith}
+use Rattle.std.proofs.Common.{◌≡◌, ◌∙◌, ◌+◌, ◌<◌, List, length, sym, ap, subst, arith}
 use Rattle.pami_algebra.specs.Fraction.{Fraction}
 use Rattle.pami_frac.specs.declared.list.Bounds.{Bounds}
 use Rattle.pami_state.specs.State.{basis_of}
@@ -7,7 +7,6 @@ use Rattle.pami_state.proofs.Formed.{has_bounds, basis_by_bounds, variables_are}
 use Rattle.pami_theory.specs.Basis.{IsBasis}
 use Rattle.pami_method.specs.Scripts.{zeros, is_nonbasic}
 use Rattle.pami_state.proofs.Signed.{stand_read}
-use Rattle.pami_theory.specs.Basis.{stand_at}
 use Rattle.pami_major.specs.Ready.{form_of}
 use Rattle.pami_major.proofs.Idle.{dense_zeros}
 use Rattle.pami_theory.specs.declared.words.Stand.{Stand}

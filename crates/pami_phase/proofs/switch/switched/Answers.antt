@@ -1,4 +1,4 @@
-use Rattle.std.proofs.Common.{◌∙◌, refl, sym}
+use Rattle.std.proofs.Common.{◌∙◌, refl}
 use Rattle.pami_state.specs.State.{basis_of}
 use Rattle.pami_phase.proofs.Solved.{fault_is, solved_is}
 use Rattle.pami_phase.proofs.switch.switched.Goals as goal
