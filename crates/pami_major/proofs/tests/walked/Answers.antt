@@ -16,8 +16,8 @@ dual_feasible-requires-clause-stands c =
     let kept : IsForm cs bs ds = lent_kept f.columns cs f.bounds bs f.costs ds c.as_slice.ensures c.as_slice-bounds.ensures c.as_slice-2.ensures f.kept.form in
     stands_by_bounds (form_by cs bs ds) bs c.in-Ok.state (has_bounds cs bs ds kept) (subst (IsBasis (form_by cs bs ds)) (sym c.in-Ok.ensures.basis) (start_is_basis (form_by cs bs ds)))
 
-pub drive-walk-requires-clause-ready : goal.drive-walk-requires-clause-ready
-drive-walk-requires-clause-ready c =
+pub drive-requires-clause-ready : goal.drive-requires-clause-ready
+drive-requires-clause-ready c =
     let f = c.in_ok-form.form in
     let cs = c.as_slice.result.now in
     let bs = c.as_slice-bounds.result.now in
