@@ -11,6 +11,7 @@
 4. The arrows of a mermaid picture are what each crate stands on, by crates.txt, without what follows from other arrows.
 5. A fenced block with lines `$ ./pami WORDS` shows runs: behind each such line stands the output, and behind that a line
    (status N). A line of three dots stands for any lines. Each is run in the top folder and has to print just that.
+6. The table of docs/FORMATS.md whose first column is Kind has the kinds of file faults that the sources tell, and no others.
 
 check_docs.py [PROGRAM]. Ends with 1 where something differs. Where there is no program, it says so and leaves 5 out.
 """
@@ -36,6 +37,9 @@ FOREIGN = set(
     glpk utils qsopt librust num rational checked check exact freemps
     """.split()
 )
+
+# A kind that is told of a model that was read, and those that only formats have which aren't read yet.
+MORE_KINDS, LATER_KINDS = {"width"}, {"syntax"}
 
 WORD = re.compile(r"[A-Za-z_][A-Za-z_0-9]*")
 SPAN = re.compile(r"`([^`]+)`")
@@ -211,6 +215,23 @@ def wrong_pictures(blocks):
                 yield number, f"the picture's {one} --> {other}"
 
 
+def wrong_kinds(page, outside, files):
+    """The kinds of file faults that the table of FORMATS.md lacks or has too many, by the definition of their words."""
+    words = [it for it in files if it.endswith("/KindWords.antt")]
+    if page != "docs/FORMATS.md" or not words:
+        return
+    due = set(re.findall(r'codes "([a-z-]+)"', text_of(words[0]))) | MORE_KINDS
+    begin = [at for at, (_, line) in enumerate(outside) if line.startswith("| Kind |")]
+    found = set()
+    for _, line in outside[begin[0] + 2 :] if begin else []:
+        if not line.startswith("|"):
+            break
+        found.update(SPAN.findall(line.split("|")[1]))
+    number = outside[begin[0]][0] if begin else 1
+    for kind in sorted(found ^ (due - LATER_KINDS)):
+        yield number, f"the kind {kind} in the table of kinds"
+
+
 def runs(block):
     """The runs that a block shows, as (line, words, output, status); an output is the lines, and dots among them."""
     number, _, lines = block
@@ -266,6 +287,7 @@ def main(program=PROGRAM):
         outside, blocks = parts(text)
         found = [*wrong_names(outside, words, paths), *wrong_words(blocks, words)]
         found += [*wrong_claims(text, known), *wrong_quotes(blocks), *wrong_pictures(blocks)]
+        found += wrong_kinds(page, outside, files)
         for block in blocks if built else []:
             shown += len(list(runs(block)))
             found += wrong_runs(block, program)

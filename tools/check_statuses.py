@@ -1,6 +1,6 @@
 #!/usr/bin/env python3
-"""Runs the built program once for each status that it may end with, and compares status, standard output and
-standard error with what docs/FORMATS.md says. Every text here was worked out from that document by hand.
+"""Runs the built program for each status that it may end with and for each kind of refused file, and compares status,
+standard output and standard error with what docs/FORMATS.md says. Every text was worked out from that document by hand.
 
 check_statuses.py [PROGRAM]. Ends with 1 where something differs. Where there is no program, it says so and ends with 0.
 """
@@ -8,6 +8,10 @@ import os
 import subprocess
 import sys
 import tempfile
+
+# No folder of compiled files is left beside this one.
+sys.dont_write_bytecode = True
+import fault_texts  # noqa: E402
 
 TOP = os.path.dirname(os.path.dirname(os.path.realpath(__file__)))
 PROGRAM = f"{TOP}/crates/pami_cli/out/pami_cli"
@@ -76,21 +80,126 @@ pivot 1 0 r:a L x:x 1/10
 rollback 2 factor div {SMALL} 10
 answer overflow factor div {SMALL} 10
 """
-# A cost below 0.
+# A cost below 0 of a column without an upper bound.
 FALLING = GOOD.replace("x c 1", "x c -1")
-# Another section than the profile has.
-UNREAD = GOOD.replace("ENDATA", "BOUNDS\nENDATA")
+# x is the cheaper one, but may be 1 at most; so it is flipped to 1, and y gives the other 2 of the 3 that r wants.
+FLIP = """ROWS
+ N c
+ G r
+COLUMNS
+ x c 1 r 1
+ y c 2 r 1
+RHS
+ r 3
+BOUNDS
+ UP x 1
+ENDATA
+"""
+FLIP_TEXT = """pami 1
+model 1 2 2
+phase 2
+major 1 full 0
+flip x:x U
+pivot 1 0 r:r L x:y 2
+answer optimal
+certificate 1 optimal
+objective 5
+x x 1 -1
+x y 2 0
+r r 3 2
+end
+basis UB L
+"""
+# Both may be 1 at most, so 3 can't be had; the flips of a walk that nobody enters in aren't written.
+UNREACHED = FLIP.replace("ENDATA", " UP y 1\nENDATA")
+UNREACHED_TEXT = """pami 1
+model 1 2 2
+phase 2
+major 1 full 0
+none 0 r:r
+answer infeasible
+certificate 1 infeasible
+r r 1
+end
+"""
+# As large as may be: x begins at its upper bound 7, and the row, between 4 and 10, is met. z is free and in no row.
+MAXIMUM = """OBJSENSE MAX
+ROWS
+ N c
+ L r
+COLUMNS
+ x c 3 r 1
+ z c 0
+RHS
+ r 10 c -1
+RANGES
+ r 6
+BOUNDS
+ UP x 7
+ FR z
+ENDATA
+"""
+MAXIMUM_TEXT = """pami 1
+model 1 2 1
+phase 2
+answer optimal
+certificate 1 optimal
+objective 22
+x x 7 -3
+x z 0 0
+r r 7 0
+end
+basis UZ B
+"""
+# The starting value of the row is 10^-38 + 10^19, which has 57 digits in its numerator.
+START = """ROWS
+ N c
+ G r
+COLUMNS
+ x c 1 r 1
+ y c 1 r 1
+BOUNDS
+ LO x 1e-38
+ LO y 1e19
+ENDATA
+"""
+START_TEXT = f"""pami 1
+model 1 2 2
+answer overflow start add {SMALL} 10000000000000000000
+"""
+# The objective is 10^-38 + 10^20, and all else fits.
+WIDE_SUM = "ROWS\n N c\nCOLUMNS\n x c 1e20\nRHS\n c -1e-38\nBOUNDS\n FX x 1\nENDATA\n"
+WIDE_SUM_TEXT = """pami 1
+model 0 1 0
+phase 2
+answer optimal
+certificate 1 optimal
+objective wide
+x x 1 100000000000000000000
+end
+basis L -
+"""
+# The column's bounds are 10^-38 and 10^19, whose distance doesn't fit.
+WIDE_BOX = GOOD.replace("ENDATA", "BOUNDS\n LO x 1e-38\n UP x 1e19\nENDATA")
+MOST_BYTES = 16777216
 FILES = {
     "good.mps": GOOD,
     "infeasible.mps": INFEASIBLE,
     "wide.mps": WIDE,
     "falling.mps": FALLING,
-    "unread.mps": UNREAD,
+    "flip.mps": FLIP,
+    "unreached.mps": UNREACHED,
+    "maximum.mps": MAXIMUM,
+    "start.mps": START,
+    "wide_sum.mps": WIDE_SUM,
+    "wide_box.mps": WIDE_BOX,
     "--limit": GOOD,
     # More than 8 megabytes of comments before the model, for a run that gets less memory than that.
     "long.mps": 200000 * ("*" + 40 * " " + "\n") + GOOD,
+    "longest.mps": GOOD + (MOST_BYTES - len(GOOD)) * "*",
+    "too_long.mps": GOOD + (MOST_BYTES + 1 - len(GOOD)) * "*",
 }
-BAD_WORDS, REFUSED, READ_FAULT = "bad words\n", "refused\n", "read fault\n"
+BAD_WORDS, READ_FAULT = "bad words\n", "read fault\n"
 NO_TEXT = b"\xff"
 
 # What is shown, the words, the status and the text.
@@ -106,13 +215,20 @@ ROWS = [
     ("a limit past the greatest", ["solve", "good.mps", "--limit", "1000001"], 2, BAD_WORDS),
     ("a word that is no UTF-8", ["solve", NO_TEXT], 2, BAD_WORDS),
     ("a word that is no UTF-8 behind a whole command", ["solve", "good.mps", NO_TEXT], 2, BAD_WORDS),
-    ("a file outside of the profile", ["solve", "unread.mps"], 3, REFUSED),
+    ("a file of 16,777,216 bytes", ["solve", "longest.mps"], 0, GOOD_TEXT),
+    ("a flip", ["solve", "flip.mps"], 0, FLIP_TEXT),
+    ("a maximum", ["solve", "maximum.mps"], 0, MAXIMUM_TEXT),
+    ("an objective that doesn't fit", ["solve", "wide_sum.mps"], 0, WIDE_SUM_TEXT),
+    ("a file of 16,777,217 bytes", ["solve", "too_long.mps"], 3, "refused 0 too-long\n"),
+    ("a box whose width doesn't fit", ["solve", "wide_box.mps"], 3, "refused 0 width x:x\n"),
     ("a file that isn't there", ["solve", "missing.mps"], 4, READ_FAULT),
     ("a folder", ["solve", "."], 4, READ_FAULT),
     ("an infeasible answer", ["solve", "infeasible.mps"], 10, INFEASIBLE_TEXT),
+    ("an infeasible answer behind flips", ["solve", "unreached.mps"], 10, UNREACHED_TEXT),
     ("the limit of pivots", ["solve", "good.mps", "--limit", "0"], 12, LIMIT_TEXT),
     ("the limit in one word", ["solve", "--limit=0", "good.mps"], 12, LIMIT_TEXT),
     ("a number that doesn't fit", ["solve", "wide.mps"], 13, WIDE_TEXT),
+    ("a start that doesn't fit", ["solve", "start.mps"], 13, START_TEXT),
     ("a cost below 0", ["solve", "falling.mps"], 30, "needs phase one\n"),
 ]
 
@@ -139,6 +255,22 @@ def differs(title, ran, status, text):
     for it in wrong:
         print(f"check_statuses: {title}: {it}")
     return bool(wrong)
+
+
+def refusals(program, folder):
+    """Each text of fault_texts.py has to be refused with its line and kind, or not to be refused. Answers what isn't so."""
+    wrong = []
+    for number, (kind, line, text, why) in enumerate(fault_texts.FAULTS):
+        with open(f"{folder}/fault.mps", "wb") as file:
+            file.write(fault_texts.bytes_of(text))
+        ran = run(program, folder, ["solve", "fault.mps"])
+        wrong.append(differs(f"refused text {number} ({why})", ran, 3, f"refused {line} {kind}\n"))
+    for number, (text, why) in enumerate(fault_texts.GOOD):
+        with open(f"{folder}/good_text.mps", "wb") as file:
+            file.write(fault_texts.bytes_of(text))
+        ran = run(program, folder, ["solve", "good_text.mps", "--limit", "0"])
+        wrong.append(ran.returncode == 3 and differs(f"good text {number} ({why})", ran, 0, None))
+    return wrong
 
 
 def write_fault(program, folder):
@@ -174,6 +306,7 @@ def main(program=PROGRAM):
             with open(f"{folder}/{name}", "w", encoding="utf-8") as it:
                 it.write(text)
         bad = [differs(title, run(program, folder, words), status, text) for title, words, status, text in ROWS]
+        bad += refusals(program, folder)
         bad += [write_fault(program, folder), want_of_memory(program, folder)]
     print(f"check_statuses: {len(bad) - sum(bad)} calls as they should be, {sum(bad)} not")
     return int(any(bad))

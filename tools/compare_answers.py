@@ -1,11 +1,12 @@
 #!/usr/bin/env python3
-"""Runs two programs on models drawn by draw_models.py and compares what they write and how they end.
+"""Runs two programs on files drawn by draw_models.py or draw_faults.py and compares what they write and how they end.
 
-compare_answers.py PROGRAM REFERENCE --seed S --count N [--jobs J]. PROGRAM and REFERENCE are commands, behind which the
-words `solve FILE --limit K` are put; both run in the folder of the models. Standard output and exit status must be the
-same, byte for byte, and some text must be there. Each difference is printed, the first few in full; then how often
-REFERENCE gave each kind of answer, and how often something else that is worth a count. Ends with 1 where something
-differs.
+compare_answers.py PROGRAM REFERENCE --seed S --count N [--what models|faults|texts] [--jobs J]. PROGRAM and REFERENCE are
+commands, behind which the words `solve FILE --limit K` are put; both run in the folder of the files. `models` are drawn
+models, `faults` damaged files, and `texts` the texts of fault_texts.py, which need neither seed nor count. Standard output
+and exit status must be the same, byte for byte, and some text must be there. Each difference is printed, the first few in
+full; then how often REFERENCE gave each kind of answer, and how often something else that is worth a count. Ends with 1
+where something differs.
 """
 import argparse
 import collections
@@ -20,15 +21,28 @@ import tempfile
 
 # No folder of compiled files is left beside this one.
 sys.dont_write_bytecode = True
+import draw_faults  # noqa: E402
 import draw_models  # noqa: E402
+import fault_texts  # noqa: E402
 
 SECONDS = 120
 IN_FULL = 5
+# How many pivots a damaged file is allowed that is a model all the same, and how much of a file is shown.
+FEW, SHOWN = 50, 4000
 # What is counted beside the kinds of answers, and how a text shows it.
 EVENTS = [
     ("with a rollback", r"^rollback "),
     ("with a major kept in the mode single", r"^major \d+ single"),
     ("with five pivots or more", r"^pivot 5 "),
+    ("with a flip", r"^flip "),
+    ("with three flips or more in one walk", r"(?:^flip .*\n){3}"),
+    ("with a flip of a row's variable", r"^flip r:"),
+    ("with a flip back", r"^flip (\S+) U(?:.*\n)+flip \1 L"),
+    ("infeasible behind a flip", r"^flip (?:.*\n)+answer infeasible"),
+    ("an overflow behind a flip", r"^flip (?:.*\n)+answer overflow"),
+    ("a limit behind a flip", r"^flip (?:.*\n)+answer limit"),
+    ("with a column at its upper bound at the end", r"^basis \S*U"),
+    ("with a free column at 0 at the end", r"^basis \S*Z"),
     ("with a row's variable that enters", r"^pivot \d+ \d+ \S+ \S r:"),
     ("with a column's variable that leaves", r"^pivot \d+ \d+ x:"),
     ("with a pivot that costs nothing", r"^pivot .* 0$"),
@@ -69,9 +83,9 @@ def differs(given, due):
 
 def kind_of(status, text):
     """What an answer is counted as: its word, with the place of an overflow, or the line that stands alone."""
-    said = re.search(r"^answer (overflow [a-z]+|\w+)", text, re.MULTILINE)
+    said = re.search(r"^answer (overflow [a-z]+|\w+)|^(refused) \d+ ([\w-]+)", text, re.MULTILINE)
     if said:
-        return said.group(1)
+        return " ".join(it for it in said.groups() if it)
     if text.count("\n") == 1:
         return text.strip()
     return f"no answer, status {status}"
@@ -84,9 +98,9 @@ def show(number, words, folder, given, due):
     if number > IN_FULL:
         print(line)
         return
-    with open(os.path.join(folder, words[1]), encoding="ascii", newline="") as file:
-        model = file.read()
-    print(f"{line}\n--- the model\n{model}", end="")
+    with open(os.path.join(folder, words[1]), "rb") as file:
+        model = file.read(SHOWN).decode("latin-1")
+    print(f"{line}\n--- the file\n{model.encode('unicode_escape').decode().replace(chr(92) + 'n', chr(10))}")
     for title, (status, text, error) in (("PROGRAM", given), ("REFERENCE", due)):
         end = "" if not text or text.endswith("\n") else " (no line feed)\n"
         print(f"--- {title}, status {status}\n{text}", end=end)
@@ -95,12 +109,28 @@ def show(number, words, folder, given, due):
     print("---")
 
 
-def compare(program, reference, seed, count, jobs):
+def write_texts(folder):
+    """Writes the texts of fault_texts.py, and answers their names."""
+    texts = [text for _, _, text, _ in fault_texts.FAULTS] + [text for text, _ in fault_texts.GOOD]
+    for number, text in enumerate(texts):
+        with open(os.path.join(folder, f"t{number:04d}.mps"), "wb") as file:
+            file.write(fault_texts.bytes_of(text))
+    return [f"t{number:04d}.mps" for number in range(len(texts))]
+
+
+def files_of(what, seed, count, folder):
+    """Writes the files, and answers (name, limit) of each."""
+    if what == "models":
+        return draw_models.write_all(seed, count, folder)
+    return [(name, FEW) for name in (write_texts(folder) if what == "texts" else draw_faults.write_all(seed, count, folder))]
+
+
+def compare(program, reference, what, seed, count, jobs):
     """How many differences there are; the counts are printed."""
     kinds, events = collections.Counter(), collections.Counter()
     differences = 0
     with tempfile.TemporaryDirectory() as folder, concurrent.futures.ThreadPoolExecutor(jobs) as pool:
-        calls = [["solve", name, "--limit", str(limit)] for name, limit in draw_models.write_all(seed, count, folder)]
+        calls = [["solve", name, "--limit", str(limit)] for name, limit in files_of(what, seed, count, folder)]
         pairs = pool.map(lambda words: (answer(program, words, folder), answer(reference, words, folder)), calls)
         for words, (given, due) in zip(calls, pairs):
             kinds[kind_of(*due[:2])] += 1
@@ -111,10 +141,11 @@ def compare(program, reference, seed, count, jobs):
     for kind, times in kinds.most_common():
         print(f"{times:6} {kind}")
     for title, _ in EVENTS:
-        print(f"{events[title]:6} {title}")
-    if differences:
-        print(f"`draw_models.py --seed {seed} --count {count} FOLDER` draws these models again")
-    print(f"{count} models, {differences} differences")
+        if events[title] or what == "models":
+            print(f"{events[title]:6} {title}")
+    if differences and what != "texts":
+        print(f"`draw_{what}.py --seed {seed} --count {count} FOLDER` draws these files again")
+    print(f"{len(calls)} {what}, {differences} differences")
     return differences
 
 
@@ -122,12 +153,13 @@ def main():
     parser = argparse.ArgumentParser(description=__doc__.split("\n")[0])
     parser.add_argument("program")
     parser.add_argument("reference")
-    parser.add_argument("--seed", type=int, required=True)
-    parser.add_argument("--count", type=int, required=True)
+    parser.add_argument("--what", choices=["models", "faults", "texts"], default="models")
+    parser.add_argument("--seed", type=int, default=1)
+    parser.add_argument("--count", type=int, default=100)
     parser.add_argument("--jobs", type=int, default=1)
     given = parser.parse_args()
     commands = command_of(given.program), command_of(given.reference)
-    return int(compare(*commands, given.seed, given.count, given.jobs) > 0)
+    return int(compare(*commands, given.what, given.seed, given.count, given.jobs) > 0)
 
 
 if __name__ == "__main__":

@@ -23,12 +23,19 @@ SIDE_LIMIT = Decimal(10) ** 20
 
 
 class Model:
-    """Rows are [type, name, side], columns are [name, cost, {row number: value}]."""
+    """Rows are [type, name, side], columns are [name, cost, {row number: value}].
+
+    `ranges` has values by row number, `bounds` by column number lists of (type, value), in the order of their lines. A side
+    and a value of RANGES or BOUNDS may be a text too, and a bound's value None.
+    """
 
     def __init__(self):
         self.rows = []
         self.columns = []
         self.constant = Decimal(0)
+        self.maximise = False
+        self.ranges = {}
+        self.bounds = {}
 
     def add_row(self, kind, side):
         self.rows.append([kind, f"r{len(self.rows)}", Decimal(side)])
@@ -50,6 +57,20 @@ class Model:
         for row, sum_ in zip(self.rows, self.activities(point)):
             room = draw.randint(0, most_room)
             row[2] = sum_ + {"G": -room, "L": room, "E": 0}[row[0]]
+
+    def add_ranges(self, draw, share):
+        """Gives some rows a range: rows that a point meets go on to be met, E rows are widened."""
+        for number, row in enumerate(self.rows):
+            if draw.random() < share:
+                width = draw.choice([0, 1, 1, 2, 5, Decimal("0.5")]) + (4 if row[0] != "E" else 0)
+                self.ranges[number] = width * sign(draw, 0.5)
+
+    def turn(self):
+        """The same model as a maximum."""
+        self.maximise = True
+        for column in self.columns:
+            column[1] = -column[1]
+        self.constant = -self.constant
 
 
 # ---- numbers
@@ -408,13 +429,183 @@ def sided(draw):
 
 def stopped(draw):
     """A model that will get a small limit."""
-    return draw.choice([optimal, infeasible, ties, ties, met_wide, chains, wide])(draw)
+    return draw.choice([optimal, infeasible, ties, ties, met_wide, chains, wide, boxes, many_boxes, many_boxes])(draw)
+
+
+# ---- kinds of models with bounds and ranges
+
+def add_bounded(draw, model, sort, entries, number=small):
+    """Adds a column of a sort of bounds, at a cost by which the start is dual feasible. Answers a value within its bounds."""
+    at, cost = len(model.columns), draw.choice([small, cents])(draw)
+    low = draw.choice([Decimal(0), Decimal(0), number(draw), -number(draw)])
+    width = number(draw)
+    if sort == "boxed":
+        cost *= draw.choice([0, 1, 1, 1, -1])
+        model.bounds[at] = draw.choice([[("LO", low), ("UP", low + width)], [("UP", low + width), ("LO", low)]])
+        value = low + width * draw.choice([0, 1, 1, Decimal("0.5")])
+    elif sort == "fixed":
+        cost *= sign(draw, 0.5)
+        model.bounds[at] = draw.choice([[("FX", low)], [("FX", low)], [("LO", low), ("UP", low)]])
+        value = low
+    elif sort == "free":
+        cost = 0
+        model.bounds[at] = draw.choice([[("FR", None)], [("MI", None)], [("LO", "-inf")], [("LO", low), ("MI", None)]])
+        value = Decimal(draw.randint(-3, 3))
+    elif sort == "upper":
+        cost *= draw.choice([0, -1, -1])
+        below = [[("UP", -width)], [("MI", None), ("UP", -width)], [("UP", -width), ("LO", "-1e20")]]
+        model.bounds[at] = draw.choice(below)
+        value = -width - draw.choice([0, 0, 1, 4])
+    else:
+        model.bounds[at] = draw.choice([[("LO", low)], [("LO", low), ("UP", "inf")], [("PL", None), ("LO", low)]])
+        value = low + draw.choice([0, 0, 1, 4])
+    model.add_column(cost, entries)
+    return value
+
+
+def with_bounds(draw, sorts, entry, bound, minus=0.2):
+    """Columns of some sorts of bounds and rows of all types with ranges, which a point meets."""
+    model, point = Model(), []
+    rows, columns = draw.randint(2, 8), draw.randint(3, 14)
+    for _ in range(rows):
+        model.add_row(draw.choice("GGGLE"), 0)
+    for _ in range(columns):
+        members = draw.sample(range(rows), min(rows, draw.choice([1, 2, 2, 3])))
+        entries = {i: entry(draw) * sign(draw, minus) for i in members}
+        point.append(add_bounded(draw, model, draw.choice(sorts), entries, bound))
+    model.meet(draw, point, 2)
+    model.add_ranges(draw, draw.choice([0, 0.3, 0.7]))
+    return model
+
+
+def boxes(draw):
+    """Mostly columns of two bounds, so that a walk passes some of them."""
+    return with_bounds(draw, ["boxed"] * 5 + ["lifted"], draw.choice([small, small, cents]), draw.choice([small, cents]))
+
+
+def bounded(draw):
+    """All sorts of bounds."""
+    sorts = ["boxed", "boxed", "fixed", "free", "upper", "lifted", "lifted"]
+    return with_bounds(draw, sorts, small, draw.choice([small, small, cents]))
+
+
+def boxes_left(draw):
+    """One more row asks for a little more than all columns at their better bounds give: no variable enters behind flips."""
+    model = with_bounds(draw, ["boxed"], small, small)
+    most, members = Decimal(0), {}
+    for at in draw.sample(range(len(model.columns)), draw.randint(1, len(model.columns))):
+        values = dict(model.bounds[at])
+        members[at] = small(draw) * sign(draw, 0.3)
+        most += max(members[at] * values["LO"], members[at] * values["UP"])
+    row = model.add_row("G", most + draw.choice([0, 0, Decimal("0.001"), 1]))
+    for at, value in members.items():
+        model.columns[at][2][row] = value
+    return model
+
+
+def boxes_wide(draw):
+    """Boxes, entries or costs of many digits: an operation of a walk with flips doesn't fit."""
+    style = draw.choice([long, odd, tiny, *(met_digits(digits) for digits in (3, 4, 5, 6, 8))])
+    narrow = lambda it: as_side(style(it))  # noqa: E731
+    entry, bound = draw.choice([(style, small), (small, narrow), (style, narrow)])
+    model = with_bounds(draw, ["boxed"] * 4 + ["lifted", "upper"], entry, bound)
+    for row in model.rows:
+        row[2] = as_side(row[2]) if len(row[2].as_tuple().digits) < 39 else small(draw)
+    return model
+
+
+def met_digits(digits):
+    """A drawer of numbers of some digits."""
+    return lambda draw: Decimal(draw.randint(1, 10 ** digits)).scaleb(-draw.randint(0, digits))
+
+
+def many_boxes(draw):
+    """Rows that many cheap boxed columns mend one after another: walks with many flips."""
+    model, count = Model(), draw.randint(8, 30)
+    rows = [model.add_row("G", 0) for _ in range(draw.randint(1, 3))]
+    for _ in range(count):
+        entries = {i: small(draw) for i in rows if draw.random() < 0.8}
+        add_bounded(draw, model, "boxed", entries)
+    model.add_column(draw.randint(20, 40), {i: Decimal(1) for i in rows})
+    for i in rows:
+        reach = sum((column[2].get(i, 0) * 9 for column in model.columns), Decimal(0))
+        model.rows[i][2] = (reach * draw.randint(1, 9) / 10).quantize(Decimal(1))
+    model.add_ranges(draw, 0.2)
+    if draw.random() < 0.4:
+        draw.choice([overflowing, overflowing, refusing, spread])(draw, model)
+    return model
+
+
+def lifted(draw):
+    """Bounds of very different sizes in one row: the values of the start may not fit."""
+    model, style = Model(), draw.choice([tiny, long, huge, edge, small])
+    rows = [model.add_row(draw.choice("GLE"), as_side(small(draw))) for _ in range(draw.randint(1, 3))]
+    for _ in range(draw.randint(2, 5)):
+        entries = {i: draw.choice([small, style])(draw) for i in rows if draw.random() < 0.8}
+        bound = as_side(draw.choice([tiny, long, odd, style])(draw))
+        model.bounds[len(model.columns)] = [(draw.choice(["LO", "LO", "FX"]), bound)]
+        model.add_column(small(draw), entries)
+    return model
+
+
+def summed(draw):
+    """An objective whose sum may not fit, at the end of a run that does."""
+    model = draw.choice([boxes, bounded, optimal])(draw)
+    model.constant = draw.choice([tiny, long])(draw) * sign(draw, 0.5)
+    for column in model.columns:
+        column[1] *= draw.choice([1, 10 ** 9, 10 ** 25])
+    return model
+
+
+def spread_box(draw):
+    """A box whose width may not fit."""
+    model = draw.choice([boxes, bounded])(draw)
+    at = draw.randrange(len(model.columns))
+    low, high = tiny(draw) * sign(draw, 0.3), as_side(draw.choice([huge, odd])(draw)) + 1
+    model.bounds[at] = [("LO", low), ("UP", high)]
+    if draw.random() < 0.3:
+        row = model.add_row("L", high)
+        model.ranges[row] = as_side(draw.choice([huge, odd, tiny])(draw))
+        model.columns[at][2][row] = small(draw)
+    return model
+
+
+def without_ends(draw):
+    """Sides, ranges and bounds that are infinite."""
+    model = bounded(draw)
+    for number, row in enumerate(model.rows):
+        way = draw.random()
+        if way < 0.3 and row[0] != "E":
+            row[2] = {"L": draw.choice(["inf", "+Infinity", "1e20", "99e30"]), "G": draw.choice(["-INF", "-1e20"])}[row[0]]
+            model.ranges.pop(number, None)
+        elif way < 0.6:
+            model.ranges[number] = draw.choice(["inf", "-inf", "1e25", "-infinity"])
+    return model
+
+
+def maximum(draw):
+    """A maximum, mostly one whose start is dual feasible."""
+    model = draw.choice([optimal, infeasible, ties, boxes, bounded, boxes_left, summed, without_ends])(draw)
+    model.turn()
+    if draw.random() < 0.2:
+        draw.choice(model.columns)[1] = small(draw)
+    return model
+
+
+def boxed_falling(draw):
+    """Some cost is of the sign that the start can't have."""
+    model = draw.choice([bounded, maximum])(draw)
+    for column in draw.sample(model.columns, draw.randint(1, 2)):
+        column[1] = (column[1] or small(draw)) * sign(draw, 0.7)
+    return model
 
 
 # ---- texts
 
 def text_of(draw, value):
-    """One of the texts of a decimal."""
+    """One of the texts of a decimal. A text stays as it is."""
+    if isinstance(value, str):
+        return value
     short = Decimal(value).normalize()
     plain = f"{short:f}"
     way = draw.random()
@@ -458,8 +649,47 @@ def lines_of(draw, model):
     sides = [(name, text_of(draw, side)) for _, name, side in model.rows if side or draw.random() < 0.1]
     if model.constant:
         sides.append(("cost", text_of(draw, -model.constant)))
+    if free and draw.random() < 0.3:
+        sides.append(("free", draw.choice(["7", "inf", "-1e20"])))
     draw.shuffle(sides)
     return rows, columns, pair_lines(draw, sides, draw.choice(["", "rhs"]))
+
+
+def range_lines(draw, model):
+    """The lines of RANGES."""
+    ranges = [(model.rows[i][1], text_of(draw, value)) for i, value in model.ranges.items()]
+    if draw.random() < 0.1:
+        unranged = [row[1] for i, row in enumerate(model.rows) if row[0] == "E" and i not in model.ranges]
+        ranges += [(name, draw.choice(["0", "-0.0"])) for name in unranged]
+    draw.shuffle(ranges)
+    return pair_lines(draw, ranges, draw.choice(["", "rng"]))
+
+
+def bound_lines(draw, model):
+    """The lines of BOUNDS, a column's in their order, and some that change nothing."""
+    given = {at: list(lines) for at, lines in model.bounds.items()}
+    for at in range(len(model.columns)):
+        if at not in given and draw.random() < 0.05:
+            given[at] = [draw.choice([("LO", Decimal(0)), ("PL", None), ("UP", "1e20"), ("UP", "INF")])]
+    waiting = [at for at, lines in given.items() for _ in lines]
+    if draw.random() < 0.3:
+        draw.shuffle(waiting)
+    lines, set_name = [], draw.choice(["", "bnd"])
+    for at in waiting:
+        kind, value = given[at].pop(0)
+        words = [kind, set_name, model.columns[at][0], "" if value is None else text_of(draw, value)]
+        if value is None and set_name and draw.random() < 0.2:
+            words[3] = "unread"
+        lines.append(" " + " ".join(word for word in words if word))
+    return lines
+
+
+def sense_lines(draw, model):
+    """The lines of OBJSENSE, which a minimum mostly has none of."""
+    if not model.maximise and draw.random() < 0.9:
+        return []
+    word = draw.choice(["MAX", "MAXIMIZE"] if model.maximise else ["MIN", "MINIMIZE"])
+    return draw.choice([[f"OBJSENSE {word}"], ["OBJSENSE", f"    {word}"]])
 
 
 def mps(draw, model):
@@ -467,9 +697,11 @@ def mps(draw, model):
     if draw.random() < 0.2:
         model.constant = draw.choice([small, cents, long])(draw) * sign(draw, 0.5)
     rows, columns, sides = lines_of(draw, model)
-    lines = draw.choice([["NAME drawn"], ["NAME"], []]) + ["ROWS", *rows, "COLUMNS", *columns]
-    if sides or draw.random() < 0.5:
-        lines += ["RHS", *sides]
+    lines = draw.choice([["NAME drawn"], ["NAME"], []]) + sense_lines(draw, model)
+    lines += ["ROWS", *rows, "COLUMNS", *columns]
+    for word, given in (("RHS", sides), ("RANGES", range_lines(draw, model)), ("BOUNDS", bound_lines(draw, model))):
+        if given or draw.random() < 0.2:
+            lines += [word, *given]
     lines.append("ENDATA")
     if draw.random() < 0.1:
         lines.insert(draw.randint(0, len(lines)), draw.choice(["* a comment", "", "  \t "]))
@@ -477,46 +709,13 @@ def mps(draw, model):
     return end.join(lines) + end
 
 
-def faulty(draw):
-    """The text of a model with one thing changed; a few of the changes leave it a model."""
-    model = draw.choice([optimal, ties])(draw)
-    row, (name, _, entries) = draw.choice(model.rows), draw.choice(model.columns)
-    change = draw.randrange(10)
-    if change == 0:
-        row[2] = draw.choice([Decimal(10) ** 20, Decimal(10) ** 20 - 1, Decimal(-10) ** 21])
-    elif change == 1:
-        entries[0] = draw.choice([Decimal(2) ** 127, Decimal(2) ** 127 - 1, -Decimal(2) ** 127])
-    elif change == 2:
-        entries[0] = draw.choice([Decimal("1e-39"), Decimal("1e-38"), Decimal("1e38"), Decimal("2e38")])
-    text = mps(draw, model)
-    lines = text.splitlines(keepends=True)
-    at = draw.randrange(len(lines))
-    if change == 3:
-        del lines[at]
-    elif change == 4:
-        lines.insert(draw.randint(0, len(lines)), lines[at])
-    elif change == 5:
-        words = lines[at].split(" ")
-        odd_words = ["", "r0", "x0", "nothing", "1e", ".", "--1", "1.5.2", "0x1", "5"]
-        words[draw.randrange(len(words))] = draw.choice(odd_words)
-        lines[at] = " ".join(words)
-    elif change == 6:
-        lines[at] = lines[at].replace(name, name[:-1] + "\x01") if name in lines[at] else " " + lines[at]
-    elif change == 7:
-        line = draw.choice(["BOUNDS", "RANGES", "RHS", "ENDATA", "OBJSENSE", " MARKER 'MARKER' 'INTORG'"])
-        lines.insert(at, line + "\n")
-    elif change == 8:
-        lines[at] = lines[at].replace("\n", " r0 1\n")
-    elif change == 9:
-        lines[at] = lines[at].lstrip()
-    return "".join(lines)
-
-
-# Each place is worth the same share. `faulty` draws a text that may be no model, each other kind a model.
+# Each place is worth the same share.
 KINDS = [
     optimal, infeasible, wide, ties, chains, met_wide, priced, stopped, lower, slices,
+    boxes, bounded, boxes_wide, boxes_left, many_boxes, maximum, lifted, summed, without_ends, boxes,
     larger, infeasible, dense, ties, aside, met_wide, sided, stopped, stairs, delayed,
-    optimal, infeasible, wide, ties, chains, falling, lower, slices, aside, faulty,
+    boxes, bounded, boxes_wide, boxes_left, many_boxes, maximum, boxed_falling, bounded, without_ends, boxes_wide,
+    optimal, infeasible, wide, ties, chains, falling, lower, slices, aside, spread_box,
 ]
 
 
@@ -524,8 +723,7 @@ def drawn(seed, number):
     """The text of a model, and how many pivots are to be allowed."""
     draw = random.Random(f"model {seed} {number}")
     kind = KINDS[number % len(KINDS)]
-    text = faulty(draw) if kind is faulty else mps(draw, kind(draw))
-    return text, draw.randint(0, 5) if kind is stopped else ENOUGH
+    return mps(draw, kind(draw)), draw.randint(0, 5) if kind is stopped else ENOUGH
 
 
 def write_all(seed, count, folder):
