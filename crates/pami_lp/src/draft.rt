@@ -143,8 +143,10 @@ pub(crate) fn set_bound(
     sides: Bounds,
 ) -> Result<(), OutOfMemory>
     requires { column < length builder.old.columns }
-    ensures bounds { OnOk result (builder.new ≡ (rules.set_bound relation column sides (rules.bounded builder.old lowered.old.keys)).draft) }
-    ensures lowered { OnOk result (lowered.new.keys ≡ (rules.set_bound relation column sides (rules.bounded builder.old lowered.old.keys)).lowered) }
+    ensures bounds { OnOk result (builder.new ≡
+        (rules.set_bound relation column sides (rules.bounded builder.old lowered.old.keys)).draft) }
+    ensures lowered { OnOk result (lowered.new.keys ≡
+        (rules.set_bound relation column sides (rules.bounded builder.old lowered.old.keys)).lowered) }
     ensures columns { length builder.new.columns ≡ length builder.old.columns }
 {
     let stated = lowered.contains(&column);
@@ -161,8 +163,10 @@ pub(crate) fn set_free(
     column: u32,
 ) -> Result<(), OutOfMemory>
     requires { column < length builder.old.columns }
-    ensures bounds { OnOk result (builder.new ≡ (rules.set_free column (rules.bounded builder.old lowered.old.keys)).draft) }
-    ensures lowered { OnOk result (lowered.new.keys ≡ (rules.set_free column (rules.bounded builder.old lowered.old.keys)).lowered) }
+    ensures bounds { OnOk result (builder.new ≡
+        (rules.set_free column (rules.bounded builder.old lowered.old.keys)).draft) }
+    ensures lowered { OnOk result (lowered.new.keys ≡
+        (rules.set_free column (rules.bounded builder.old lowered.old.keys)).lowered) }
     ensures columns { length builder.new.columns ≡ length builder.old.columns }
 {
     lower(lowered, column)?;

@@ -90,7 +90,8 @@ impl Reader {
     }
 
     fn take_goal_label(&self, text: &[u8]) -> Result<(), Fault<FileKind>>
-        ensures { FollowsBy (λ _. seen_by_reader self.now) (acts.act_goal_label (seen_by_reader self.now) text.now) result }
+        ensures { FollowsBy (λ _. seen_by_reader self.now)
+            (acts.act_goal_label (seen_by_reader self.now) text.now) result }
     {
         if text.len() > NAME_LIMIT {
             return Err(Fault::Named(FileKind::NameLong));
@@ -99,7 +100,8 @@ impl Reader {
     }
 
     fn take_label(&mut self, alloc: Global, name: &[u8]) -> Result<(), Fault<FileKind>>
-        ensures { FollowsBy (λ _. seen_by_reader self.new) (the_act (seen_by_reader self.old) Role.RowLabel name.now) result }
+        ensures { FollowsBy (λ _. seen_by_reader self.new)
+            (the_act (seen_by_reader self.old) Role.RowLabel name.now) result }
     {
         let label = Vec::from_slice(alloc, name)?;
         self.label = Some(label);
@@ -107,7 +109,8 @@ impl Reader {
     }
 
     fn take_number(&mut self, text: &[u8]) -> Result<(), Fault<FileKind>>
-        ensures { FollowsBy (λ _. seen_by_reader self.new) (acts.act_coefficient (seen_by_reader self.old) text.now) result }
+        ensures { FollowsBy (λ _. seen_by_reader self.new)
+            (acts.act_coefficient (seen_by_reader self.old) text.now) result }
     {
         let size = number(text)?;
         self.coefficient = Some(size);
@@ -115,7 +118,8 @@ impl Reader {
     }
 
     fn take_constant(&mut self, text: &[u8]) -> Result<(), Fault<FileKind>>
-        ensures { FollowsBy (λ _. seen_by_reader self.new) (acts.act_constant (seen_by_reader self.old) text.now) result }
+        ensures { FollowsBy (λ _. seen_by_reader self.new)
+            (acts.act_constant (seen_by_reader self.old) text.now) result }
     {
         let size = number(text)?;
         match add_constant(&mut self.builder, signed(self.negative, size)) {
@@ -128,7 +132,8 @@ impl Reader {
     }
 
     fn take_goal_name(&mut self, name: &[u8]) -> Result<(), Fault<FileKind>>
-        ensures { FollowsBy (λ _. seen_by_reader self.new) (acts.act_goal_name (seen_by_reader self.old) name.now) result }
+        ensures { FollowsBy (λ _. seen_by_reader self.new)
+            (acts.act_goal_name (seen_by_reader self.old) name.now) result }
     {
         let value = coefficient_of(self.negative, self.coefficient);
         let column = stand_column(&mut self.builder, name)?;
@@ -143,7 +148,8 @@ impl Reader {
     }
 
     fn take_row_name(&mut self, name: &[u8]) -> Result<(), Fault<FileKind>>
-        ensures { FollowsBy (λ _. seen_by_reader self.new) (acts.act_row_name (seen_by_reader self.old) name.now) result }
+        ensures { FollowsBy (λ _. seen_by_reader self.new)
+            (acts.act_row_name (seen_by_reader self.old) name.now) result }
     {
         let value = coefficient_of(self.negative, self.coefficient);
         let column = stand_column(&mut self.builder, name)?;
@@ -155,7 +161,8 @@ impl Reader {
 
     /// A value to the left of a relation.
     fn take_left(&mut self, text: &[u8], relation: Relation) -> Result<(), Fault<FileKind>>
-        ensures { FollowsBy (λ _. seen_by_reader self.new) (acts.act_left (seen_by_reader self.old) relation text.now) result }
+        ensures { FollowsBy (λ _. seen_by_reader self.new)
+            (acts.act_left (seen_by_reader self.old) relation text.now) result }
     {
         let sides = read_side(text, self.negative, turned(relation), self.sides)?;
         self.sides = sides;
@@ -192,7 +199,8 @@ impl Reader {
     }
 
     fn take_row_last(&mut self, alloc: Global, name: &[u8]) -> Result<(), Fault<FileKind>>
-        ensures { FollowsBy (λ _. seen_by_reader self.new) (acts.act_row_last (seen_by_reader self.old) name.now) result }
+        ensures { FollowsBy (λ _. seen_by_reader self.new)
+            (acts.act_row_last (seen_by_reader self.old) name.now) result }
     {
         self.take_row_name(name)?;
         self.end_row(alloc)
@@ -204,7 +212,8 @@ impl Reader {
         text: &[u8],
         relation: Relation,
     ) -> Result<(), Fault<FileKind>>
-        ensures { FollowsBy (λ _. seen_by_reader self.new) (acts.act_row_right (seen_by_reader self.old) relation text.now) result }
+        ensures { FollowsBy (λ _. seen_by_reader self.new)
+            (acts.act_row_right (seen_by_reader self.old) relation text.now) result }
     {
         let sides = read_side(text, self.negative, relation, self.sides)?;
         self.sides = sides;
@@ -232,7 +241,8 @@ impl Reader {
     }
 
     fn take_bound_column(&mut self, name: &[u8]) -> Result<(), Fault<FileKind>>
-        ensures { FollowsBy (λ _. seen_by_reader self.new) (acts.act_bound_column (seen_by_reader self.old) name.now) result }
+        ensures { FollowsBy (λ _. seen_by_reader self.new)
+            (acts.act_bound_column (seen_by_reader self.old) name.now) result }
     {
         let column = stand_column(&mut self.builder, name)?;
         self.column = Some(column);
@@ -240,7 +250,8 @@ impl Reader {
     }
 
     fn take_bound_name(&mut self, name: &[u8], relation: Relation) -> Result<(), Fault<FileKind>>
-        ensures { FollowsBy (λ _. seen_by_reader self.new) (acts.act_bound_name (seen_by_reader self.old) relation name.now) result }
+        ensures { FollowsBy (λ _. seen_by_reader self.new)
+            (acts.act_bound_name (seen_by_reader self.old) relation name.now) result }
     {
         self.take_bound_column(name)?;
         self.set_side(turned(relation))?;
@@ -258,7 +269,8 @@ impl Reader {
     }
 
     fn take_bound_right(&mut self, text: &[u8], relation: Relation) -> Result<(), Fault<FileKind>>
-        ensures { FollowsBy (λ _. seen_by_reader self.new) (acts.act_bound_right (seen_by_reader self.old) relation text.now) result }
+        ensures { FollowsBy (λ _. seen_by_reader self.new)
+            (acts.act_bound_right (seen_by_reader self.old) relation text.now) result }
     {
         let sides = read_side(text, self.negative, relation, self.sides)?;
         self.sides = sides;
@@ -312,7 +324,8 @@ impl Reader {
         after: Class,
         text: &[u8],
     ) -> Result<(), Fault<FileKind>>
-        ensures { FollowsBy (λ _. seen_by_reader self.new) (step (seen_by_reader self.old) class after text.now) result }
+        ensures { FollowsBy (λ _. seen_by_reader self.new)
+            (step (seen_by_reader self.old) class after text.now) result }
     {
         match move_of(self.place, class, after) {
             Some(step) => {

@@ -27,7 +27,8 @@ fn is_word(text: &[u8], word: &[u8]) -> bool
 }
 
 fn goal_of(text: &[u8]) -> Option<Sense>
-    ensures { result ≡ (if is_least text.now then Some Sense.Min else if is_greatest text.now then Some Sense.Max else None) }
+    ensures { result ≡
+        (if is_least text.now then Some Sense.Min else if is_greatest text.now then Some Sense.Max else None) }
 {
     if is_word(text, b"min")
         || is_word(text, b"minimum")

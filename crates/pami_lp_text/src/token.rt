@@ -58,7 +58,8 @@ fn is_blank(piece: &[u8]) -> bool
 
 /// Puts the tokens of a line behind those before it.
 fn take_line<'a>(line: &'a [u8], number: u32, out: &mut Vec<Token<'a>>) -> Result<(), OutOfMemory>
-    ensures { IfOk result (λ _. all_told out.new.items ≡ all_told out.old.items ++ marked number true (words_of line.now)) }
+    ensures { IfOk result (λ _. all_told out.new.items ≡
+        all_told out.old.items ++ marked number true (words_of line.now)) }
 {
     let mut rest = uncommented(line);
     let mut first = true;
