@@ -297,28 +297,24 @@ fn other_answers(rt: HostRuntime) -> Result<(), Fail> {
 }
 
 /// The starting state of a form, which has to be dual feasible.
-fn ready_start(rt: &impl Abort, alloc: Global, form: &Form, limit: u32) -> Result<State, Fail>
+fn ready_start(alloc: Global, form: &Form, limit: u32) -> Result<State, Fail>
     ensures { IfOk result (λ st. IsReady form.now limit st) }
 {
-    match started(alloc, form) {
-        Ok(state) => {
-            assert!(rt; state.dual_feasible(form.bounds.as_slice()));
-            Ok(state)
-        }
-        Err(_) => Err(Fail::from("a start")),
+    let state = match started(alloc, form) {
+        Ok(state) => state,
+        Err(_) => return Err(Fail::from("a start")),
+    };
+    if !state.dual_feasible(form.bounds.as_slice()) {
+        return Err(Fail::from("a dual feasible start"));
     }
+    Ok(state)
 }
 
 /// What a major comes to from the start of a form, with the state before it and the one behind it.
-fn major_of(
-    rt: &impl Abort,
-    alloc: Global,
-    form: &Form,
-    limit: u32,
-) -> Result<(MajorEnd, State, State), Fail>
+fn major_of(alloc: Global, form: &Form, limit: u32) -> Result<(MajorEnd, State, State), Fail>
     requires { limit ≤ greatest_limit }
 {
-    let mut state = ready_start(rt, alloc, form, limit)?;
+    let mut state = ready_start(alloc, form, limit)?;
     let before = state.copy(alloc).ok().ok_or("a copy")?;
     let mut steps = Steps::<()>::new();
     let options = options_with(limit);
@@ -341,14 +337,14 @@ fn is_same(rt: &impl Abort, before: &State, behind: &State) {
 #[test]
 fn majors_leave_the_state(rt: HostRuntime) -> Result<(), Fail> {
     let inside = one_by_one(&rt, rt.alloc(), at_least(0), 1, at_most(5))?;
-    let (end, before, behind) = major_of(&rt, rt.alloc(), &inside, 10)?;
+    let (end, before, behind) = major_of(rt.alloc(), &inside, 10)?;
     assert!(rt; matches!(end, MajorEnd::Optimal));
     is_same(&rt, &before, &behind);
     let outside = one_by_one(&rt, rt.alloc(), at_least(0), 1, at_most(-1))?;
-    let (end, before, behind) = major_of(&rt, rt.alloc(), &outside, 0)?;
+    let (end, before, behind) = major_of(rt.alloc(), &outside, 0)?;
     assert!(rt; matches!(end, MajorEnd::Limit));
     is_same(&rt, &before, &behind);
-    let (end, before, behind) = major_of(&rt, rt.alloc(), &outside, 10)?;
+    let (end, before, behind) = major_of(rt.alloc(), &outside, 10)?;
     match end {
         MajorEnd::NoEntering { chosen, rho, moves } => {
             assert_eq!(rt; chosen.as_slice(), [0].as_slice());
@@ -359,14 +355,14 @@ fn majors_leave_the_state(rt: HostRuntime) -> Result<(), Fail> {
     }
     is_same(&rt, &before, &behind);
     let wide = one_by_one(&rt, rt.alloc(), exactly(MAX), 1, at_most(-MAX))?;
-    let (end, before, behind) = major_of(&rt, rt.alloc(), &wide, 10)?;
+    let (end, before, behind) = major_of(rt.alloc(), &wide, 10)?;
     match end {
         MajorEnd::Refused(place) => assert!(rt; matches!(place.task, Spot::Choose)),
         _ => return Err(Fail::from("a refusal")),
     }
     is_same(&rt, &before, &behind);
     let below = one_by_one(&rt, rt.alloc(), at_least(0), 1, at_least(1))?;
-    let (end, _, behind) = major_of(&rt, rt.alloc(), &below, 10)?;
+    let (end, _, behind) = major_of(rt.alloc(), &below, 10)?;
     assert!(rt; matches!(end, MajorEnd::Moved { .. }));
     assert_eq!(rt; behind.head.as_slice(), [0].as_slice());
     assert_eq!(rt; behind.values.as_slice(), [Frac::one()].as_slice());
