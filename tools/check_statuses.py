@@ -82,6 +82,8 @@ answer overflow factor div {SMALL} 10
 """
 # A cost below 0 of a column without an upper bound.
 FALLING = GOOD.replace("x c 1", "x c -1")
+# The model of GOOD.
+GOOD_LP = "min x\nst\n r: 2 x >= 4\nend\n"
 # x is the cheaper one, but may be 1 at most; so it is flipped to 1, and y gives the other 2 of the 3 that r wants.
 FLIP = """ROWS
  N c
@@ -187,6 +189,10 @@ FILES = {
     "infeasible.mps": INFEASIBLE,
     "wide.mps": WIDE,
     "falling.mps": FALLING,
+    "good.LP": GOOD_LP,
+    "good.lp": GOOD_LP,
+    "lp.txt": GOOD_LP,
+    "mps.lp": GOOD,
     "flip.mps": FLIP,
     "unreached.mps": UNREACHED,
     "maximum.mps": MAXIMUM,
@@ -207,11 +213,17 @@ ROWS = [
     ("an optimal answer", ["solve", "good.mps"], 0, GOOD_TEXT),
     ("a file with a dash in front, behind --", ["solve", "--", "--limit"], 0, GOOD_TEXT),
     ("a file of 8 megabytes", ["solve", "long.mps"], 0, GOOD_TEXT),
+    ("an LP file by its name", ["solve", "good.lp"], 0, GOOD_TEXT),
+    ("an LP file by an option", ["solve", "--format", "lp", "lp.txt"], 0, GOOD_TEXT),
+    ("an MPS file by an option", ["solve", "mps.lp", "--format=mps"], 0, GOOD_TEXT),
+    ("an LP file without the option", ["solve", "lp.txt"], 3, "refused 1 section\n"),
+    ("an LP file by its name in capitals", ["solve", "good.LP"], 0, GOOD_TEXT),
     ("no words", [], 2, BAD_WORDS),
     ("no command", ["good.mps"], 2, BAD_WORDS),
     ("no file", ["solve"], 2, BAD_WORDS),
     ("an empty file name", ["solve", ""], 2, BAD_WORDS),
     ("an option that isn't there", ["solve", "good.mps", "--help"], 2, BAD_WORDS),
+    ("a format that isn't there", ["solve", "good.mps", "--format", "MPS"], 2, BAD_WORDS),
     ("a limit past the greatest", ["solve", "good.mps", "--limit", "1000001"], 2, BAD_WORDS),
     ("a word that is no UTF-8", ["solve", NO_TEXT], 2, BAD_WORDS),
     ("a word that is no UTF-8 behind a whole command", ["solve", "good.mps", NO_TEXT], 2, BAD_WORDS),
@@ -260,16 +272,18 @@ def differs(title, ran, status, text):
 def refusals(program, folder):
     """Each text of fault_texts.py has to be refused with its line and kind, or not to be refused. Answers what isn't so."""
     wrong = []
-    for number, (kind, line, text, why) in enumerate(fault_texts.FAULTS):
-        with open(f"{folder}/fault.mps", "wb") as file:
-            file.write(fault_texts.bytes_of(text))
-        ran = run(program, folder, ["solve", "fault.mps"])
-        wrong.append(differs(f"refused text {number} ({why})", ran, 3, f"refused {line} {kind}\n"))
-    for number, (text, why) in enumerate(fault_texts.GOOD):
-        with open(f"{folder}/good_text.mps", "wb") as file:
-            file.write(fault_texts.bytes_of(text))
-        ran = run(program, folder, ["solve", "good_text.mps", "--limit", "0"])
-        wrong.append(ran.returncode == 3 and differs(f"good text {number} ({why})", ran, 0, None))
+    both = [("text.mps", fault_texts.FAULTS, fault_texts.GOOD), ("text.lp", fault_texts.LP_FAULTS, fault_texts.LP_GOOD)]
+    for name, faults, good in both:
+        for number, (kind, line, text, why) in enumerate(faults):
+            with open(f"{folder}/{name}", "wb") as file:
+                file.write(fault_texts.bytes_of(text))
+            ran = run(program, folder, ["solve", name])
+            wrong.append(differs(f"refused {name} {number} ({why})", ran, 3, f"refused {line} {kind}\n"))
+        for number, (text, why) in enumerate(good):
+            with open(f"{folder}/{name}", "wb") as file:
+                file.write(fault_texts.bytes_of(text))
+            ran = run(program, folder, ["solve", name, "--limit", "0"])
+            wrong.append(ran.returncode == 3 and differs(f"good {name} {number} ({why})", ran, 0, None))
     return wrong
 
 

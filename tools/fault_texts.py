@@ -1,4 +1,6 @@
-"""MPS texts with the first fault of each, worked out from docs/FORMATS.md by hand; and texts that look faulty and aren't.
+"""Texts with the first fault of each, worked out from docs/FORMATS.md by hand; and texts that look faulty and aren't.
+
+`FAULTS` and `GOOD` are MPS texts, `LP_FAULTS` and `LP_GOOD` LP texts.
 
 Where a text is a list, its members are its lines, each with a line feed behind it. A text of bytes is taken as it stands.
 """
@@ -229,6 +231,69 @@ GOOD = [
     ([*many_rows(256)[:-1], " N d", " N f", "COLUMNS", "ENDATA"], "256 rows and more N rows"),
     ([*many_columns(4096), "ENDATA"], "4,096 columns"),
     ([*many_entries("0"), "ENDATA"], "65,536 entries and one of value 0"),
+]
+
+
+def lp(*lines):
+    """An LP text of rows alone. The first of them is line 3."""
+    return ["min x", "st", *lines, "end"]
+
+
+LP_FAULTS = [
+    ("byte", 3, lp("3 * x <= 4"), "no product sign"),
+    ("byte", 3, lp("c: x[1] <= 4"), "no index"),
+    ("byte", 3, lp("x <= 4 \x0b"), "a control byte"),
+    ("byte", 3, lp("\xfc >= 1"), "a byte above 127"),
+    ("byte", 3, b"min x\nst\nx >= 1\r", "CR without a line feed"),
+    ("syntax", 3, lp("3 x y <= 4"), "no sign between terms"),
+    ("syntax", 3, lp("x + 2 <= 4"), "a number without a name in a row"),
+    ("syntax", 3, lp("2 >= x <= 5"), "relations that point two ways"),
+    ("syntax", 3, lp("2 <= x = 5"), "a second relation `=`"),
+    ("syntax", 4, lp("x <="), "the value is missing where `end` stands"),
+    ("syntax", 2, ["min x +", "st", "end"], "a sign without a term"),
+    ("syntax", 4, ["min x", "st", "bounds", "2 x <= 4", "end"], "a bound has no coefficient"),
+    ("syntax", 3, lp("c: d: x <= 4"), "two labels"),
+    ("order", 1, ["st", "x <= 4", "end"], "the objective is missing"),
+    ("order", 2, ["min x", "bounds", "end"], "the rows are missing"),
+    ("order", 3, lp("min x"), "a second objective"),
+    ("order", 5, ["min x", "st", "x <= 4", "bounds", "st", "end"], "the rows a second time"),
+    ("integer", 3, lp("general", "x"), "whole columns"),
+    ("integer", 1, ["binary", "x", "end"], "wherever it stands"),
+    ("duplicate-row", 4, lp("c: x <= 4", "c: x >= 1"), "a label twice"),
+    ("duplicate-row", 4, lp("R2: x <= 4", "x >= 1"), "the second row's own name is R2"),
+    ("wide", 3, lp(f"{TOO_GREAT} x >= 1"), "2^127"),
+    ("wide", 3, lp("1e-38 x + 1e19 x >= 1"), "the sum of the terms"),
+    ("wide", 1, ["min 1e38 + 1e38 + x", "st", "end"], "the sum of the constant"),
+    ("wide", 3, lp("x >= 1e-39"), "a value that is small, so not infinite"),
+    ("infinite", 3, lp("x >= inf"), "at least infinity"),
+    ("infinite", 3, lp("x <= -1e20"), "at most minus infinity"),
+    ("infinite", 3, lp("x = infinity"), "equal to infinity"),
+    ("infinite", 4, ["min x", "st", "bounds", "inf <= x", "end"], "in bounds"),
+    ("crossed", 3, lp("4 <= x <= 2"), "a row, at its last token"),
+    ("crossed", 6, ["min x", "st", "bounds", "x = 3", "x >= 4", "end"], "a column, at `end`"),
+    ("name-long", 3, lp(f"{LONGER} >= 1"), "a column of 256 bytes"),
+    ("name-long", 4, lp(f"{LONGER}: x", ">= 1"), "a row, at its last token"),
+    ("too-many-rows", 259, lp(*("x >= 1" for _ in range(257))), "the 257th row"),
+    ("too-many-rows", 260, lp(*(f"c{i}: x >= 1" for i in range(256)), "c: x", ">= 1"), "at its last token"),
+    ("too-many-columns", 4098, ["min", *(f"+ x{j}" for j in range(4097)), "st", "end"], "the 4,097th column"),
+    ("too-many-columns", 4099, ["min", *(f"+ x{j}" for j in range(4096)), "st", "y >= 1", "end"], "in a row"),
+    ("end-missing", 1, b"", "no line at all"),
+    ("end-missing", 4, ["min x", "st", "x >= 1"], "cut in the rows"),
+    ("end-missing", 3, b"min x\nst", "without a line feed"),
+]
+
+LP_GOOD = [
+    (["min", "st", "end"], "an empty objective and no rows"),
+    (["MAXIMISE obj: - - x + 3 - y", "Subject", "To", "S.T.: x >= 1", "Bounds", "End", "* what [ever]"], "words in any capitals"),
+    (lp("e1 + 2e3 x - 2 e <= 4"), "names that look like exponents"),
+    (lp("x \\ a comment \x01 [", ">= 1"), "a row in two lines, anything in a comment"),
+    (lp("x - x >= 1"), "a sum of 0"),
+    (lp("-inf <= x", "x <= 1e20"), "sides that aren't there"),
+    (["min x", "st", "bounds", "x <= -1", "y free", "-inf <= z <= 3", "end"], "bounds that take others away"),
+    (lp("end: x >= 1"), "a label that is a section word"),
+    (b"min x\nst\nx >= 1\nend\r\0", "nothing behind `end` is read"),
+    (lp(f"{LONG} >= 1"), "a name of 255 bytes"),
+    (lp(*("x >= 1" for _ in range(256))), "256 rows"),
 ]
 
 
