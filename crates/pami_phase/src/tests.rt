@@ -1,6 +1,6 @@
 //! Runs of small models: what each is answered, tellers that fail at each of its events, and what one major leaves.
 
-ghost use Rattle.std.specs.Prelude.{◌≤◌, IfOk};
+ghost use Rattle.std.specs.Prelude.{◌≡◌, ◌≤◌, IfOk};
 ghost use Rattle.pami_method.specs.Walk.{greatest_limit, IsOptions};
 ghost use Rattle.pami_major.specs.Ready.{IsReady};
 ghost use Rattle.pami_major.specs.Walks.{IsOneRow};
@@ -102,6 +102,7 @@ fn options_with(limit: u32) -> Options
     requires { limit ≤ greatest_limit }
     ensures options { IsOptions result }
     ensures one_row { IsOneRow result }
+    ensures limit { result.limit ≡ limit }
 {
     Options {
         batch: 1,
