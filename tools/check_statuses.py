@@ -80,8 +80,19 @@ pivot 1 0 r:a L x:x 1/10
 rollback 2 factor div {SMALL} 10
 answer overflow factor div {SMALL} 10
 """
-# A cost below 0 of a column without an upper bound.
+# A unit more of x costs 1 less, and nothing bounds x or r above: in the boxes r is 1, so x is 1/2.
 FALLING = GOOD.replace("x c 1", "x c -1")
+FALLING_TEXT = """pami 1
+model 1 1 1
+phase 1
+major 1 full 0
+pivot 1 0 r:r U x:x 1/2
+answer dual-infeasible
+certificate 1 dual-infeasible
+x x 1/2
+r r 1
+end
+"""
 # The model of GOOD.
 GOOD_LP = "min x\nst\n r: 2 x >= 4\nend\n"
 # x is the cheaper one, but may be 1 at most; so it is flipped to 1, and y gives the other 2 of the 3 that r wants.
@@ -237,11 +248,11 @@ ROWS = [
     ("a folder", ["solve", "."], 4, READ_FAULT),
     ("an infeasible answer", ["solve", "infeasible.mps"], 10, INFEASIBLE_TEXT),
     ("an infeasible answer behind flips", ["solve", "unreached.mps"], 10, UNREACHED_TEXT),
+    ("a cost that falls without end", ["solve", "falling.mps"], 11, FALLING_TEXT),
     ("the limit of pivots", ["solve", "good.mps", "--limit", "0"], 12, LIMIT_TEXT),
     ("the limit in one word", ["solve", "--limit=0", "good.mps"], 12, LIMIT_TEXT),
     ("a number that doesn't fit", ["solve", "wide.mps"], 13, WIDE_TEXT),
     ("a start that doesn't fit", ["solve", "start.mps"], 13, START_TEXT),
-    ("a cost below 0", ["solve", "falling.mps"], 30, "needs phase one\n"),
 ]
 
 

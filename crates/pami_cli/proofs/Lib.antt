@@ -4,6 +4,5 @@ pub mod Runs
 pub mod Lines
 pub mod Objectives
 pub mod Listed
-pub mod Started
-pub mod WalkEnds
-pub mod Begun
+pub mod Statuses
+pub mod Told

@@ -6,6 +6,7 @@ use Rattle.pami_model.specs.declared.list.Row.{Row}
 use Rattle.pami_model.specs.declared.list.Column.{Column}
 use Rattle.pami_model.specs.Rules.{names_of_rows, names_of_columns}
 use Rattle.pami_model.specs.Contents.{Contents}
+use Rattle.pami_linear.specs.Lists.{get}
 use Rattle.pami_script.specs.Script.{add_dot}
 use Rattle.pami_theory.specs.Form.{zero_f}
 use Rattle.pami_theory.specs.declared.words.Stand.{Stand}
@@ -14,10 +15,11 @@ use Rattle.pami_theory.specs.Basis.{Basis, stand_at}
 use Rattle.pami_lines.specs.Line.{line, text}
 use Rattle.pami_lines.specs.Head.{Counts}
 use Rattle.pami_lines.specs.Letters.{letters, stands_from, basis_line}
-use Rattle.pami_lines.specs.Certificate.{Valued, objective_word, valued_from, valued_line, optimal_lines, kept_or_none, objective_in, certificate_of}
+use Rattle.pami_lines.specs.Certificate.{Valued, objective_word, valued_from, valued_line, optimal_lines, kept_or_none, objective_in, certificate_of, named_lines}
 use Rattle.pami_lines.proofs.Texts.{text_append, text_one}
 use Rattle.pami_model_form.specs.ModelForm.{member}
 use Rattle.pami_model_form.specs.Named.{counts_of, named_of}
+use Rattle.pami_cli.specs.Text.{dual_infeasible_text}
 
 -- ---- certificates
 
@@ -54,6 +56,12 @@ certificate_printed m x d columns rows told o a b c e f r p q t h i j k l n =
     ∙ ap (λ (z : ℕ). o ++ certificate_by (objective_word (objective_in (named_of m) x)) (valued_from 0 (names_of_columns m.columns) x d) (valued_from z (names_of_rows rows) x d)) many
     ∙ ap (λ (z : List Row). o ++ certificate_by (objective_word (objective_in (named_of m) x)) (valued_from 0 (names_of_columns m.columns) x d) (valued_from first (names_of_rows z) x d)) q
 
+-- the lines of a direction, from the count that its rows begin behind, the columns and the rows
+abbrev direction_by : List Fraction → ℕ → List Column → List Row → List ℕ
+direction_by z first columns rows =
+    text ((codes "answer" ∷ codes "dual-infeasible" ∷ []) ∷ (codes "certificate" ∷ codes "1" ∷ codes "dual-infeasible" ∷ []) ∷
+    (named_lines (codes "x") 0 (names_of_columns columns) (get z) ++ (named_lines (codes "r") first (names_of_rows rows) (get z) ++ (codes "end" ∷ []) ∷ [])))
+
 -- an answer with its certificate and its basis
 pub optimal_joined : (o a b r : List ℕ) (certificate : List (List (List ℕ))) (basis : List (List ℕ)) → a ≡ o ++ codes "answer optimal\n" → b ≡ a ++ text certificate → r ≡ b ++ line basis →
     r ≡ o ++ text ((codes "answer" ∷ codes "optimal" ∷ []) ∷ (certificate ++ basis ∷ []))
@@ -78,6 +86,25 @@ infeasible_joined o a b r rows h i j =
     ∙ append_assoc (o ++ front) (text rows) (codes "end\n")
     ∙ append_assoc o front (text rows ++ codes "end\n")
     ∙ ap (λ (z : List ℕ). o ++ (front ++ z)) (sym (text_append rows ((codes "end" ∷ []) ∷ [])))
+
+pub dual_infeasible_joined : (o a b d r : List ℕ) (columns rows : List (List (List ℕ))) → a ≡ o ++ codes "answer dual-infeasible\ncertificate 1 dual-infeasible\n" → b ≡ a ++ text columns → d ≡ b ++ text rows → r ≡ d ++ codes "end\n" →
+    r ≡ o ++ text ((codes "answer" ∷ codes "dual-infeasible" ∷ []) ∷ (codes "certificate" ∷ codes "1" ∷ codes "dual-infeasible" ∷ []) ∷ (columns ++ (rows ++ (codes "end" ∷ []) ∷ [])))
+dual_infeasible_joined o a b d r columns rows h i j k =
+    let front : List ℕ = codes "answer dual-infeasible\ncertificate 1 dual-infeasible\n" in
+    let all : r ≡ o ++ (front ++ (text columns ++ (text rows ++ codes "end\n"))) = simp (k, j, i, h, append_assoc) in
+    all ∙ ap (λ (z : List ℕ). o ++ (front ++ z)) (sym (text_of_two columns rows))
+
+-- the same where the names and the count of columns are those of lists that were lent
+pub dual_infeasible_printed : (m : Contents) (z : List Fraction) (columns : List Column) (rows : List Row) (o a b d r : List ℕ) → columns ≡ m.columns → rows ≡ m.rows →
+    a ≡ o ++ codes "answer dual-infeasible\ncertificate 1 dual-infeasible\n" → b ≡ a ++ text (named_lines (codes "x") 0 (names_of_columns columns) (get z)) →
+    d ≡ b ++ text (named_lines (codes "r") (length columns) (names_of_rows rows) (get z)) → r ≡ d ++ codes "end\n" → r ≡ o ++ dual_infeasible_text m z
+dual_infeasible_printed m z columns rows o a b d r p q h i j k =
+    let first : ℕ = length (names_of_columns m.columns) in
+    let many : length columns ≡ first = ap length p ∙ sym (length-map m.columns (λ (column : Column). column.name)) in
+    dual_infeasible_joined o a b d r (named_lines (codes "x") 0 (names_of_columns columns) (get z)) (named_lines (codes "r") (length columns) (names_of_rows rows) (get z)) h i j k
+    ∙ ap (λ (n : ℕ). o ++ direction_by z n columns rows) many
+    ∙ ap (λ (cs : List Column). o ++ direction_by z first cs rows) p
+    ∙ ap (λ (rs : List Row). o ++ direction_by z first m.columns rs) q
 
 -- ---- bases
 -- the stands of variables are members of the list of stands, one behind the other

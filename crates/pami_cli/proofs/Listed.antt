@@ -1,31 +1,75 @@
--- The last state of a walk, and the text of an optimal answer.
-use Rattle.std.proofs.Common.{◌≡◌, ℕ, List, ◌++◌, length, ap, ◌∙◌}
+-- The answer of a form, and the lines that are printed of it.
+use Rattle.std.proofs.Common.{◌≡◌, ℕ, List, ◌++◌, length, sym, ap, ◌∙◌, subst}
 use Rattle.pami_algebra.specs.Fraction.{Fraction}
 use Rattle.pami_frac.specs.declared.list.Bounds.{Bounds}
 use Rattle.pami_theory.specs.Form.{Form}
 use Rattle.pami_theory.specs.Basis.{IsBasis}
+use Rattle.pami_theory.specs.Boxes.{boxes_of}
+use Rattle.pami_theory.specs.Fresh.{Fresh}
+use Rattle.pami_method.specs.Walk as method
+use Rattle.pami_method.specs.Phases as phases
+use Rattle.pami_form.specs.declared.form.Form.{Form as ProgramForm}
 use Rattle.pami_state.specs.declared.state.State.{State}
 use Rattle.pami_state.specs.Columns.{bounds_form, HasBounds}
 use Rattle.pami_state.specs.State.{basis_of, IsSolvedAfresh}
-use Rattle.pami_state.proofs.Formed.{basis_by_bounds}
+use Rattle.pami_state.proofs.Formed.{has_bounds, basis_by_bounds}
 use Rattle.pami_state.proofs.Known.{values_by_head}
+use Rattle.pami_lines.specs.Line.{text}
+use Rattle.pami_text.specs.Record.{answer_lines}
+use Rattle.pami_major.specs.Ready.{form_of}
+use Rattle.pami_phase.specs.declared.answer.Answer.{Answer}
+use Rattle.pami_phase.specs.declared.answer.Answer.TheVariants as answers
+use Rattle.pami_phase.specs.Runs.{IsLast, IsAnswerOf}
 use Rattle.pami_model.specs.Contents.{Contents}
 use Rattle.pami_model_form.specs.ModelForm.{model_form}
-use Rattle.pami_cli.specs.Text.{optimal_text}
+use Rattle.pami_model_form.specs.Named.{named_of}
+use Rattle.pami_cli.specs.Text.{optimal_text, dual_infeasible_text}
 use Rattle.pami_cli.specs.Solved.{IsReadable}
 
-module _ (f : Form) (bounds : List Bounds) (st : State) (r : IsReadable f bounds st) where
-  pub last_values : length st.values ≡ length st.head
-  last_values = values_by_head f st r.basis r.solved
+-- ---- states that are read
+-- a state that is solved afresh at a basis of the form
+pub record IsRead (f : Form) (st : State) : Type 0 where
+  pub basis : IsBasis f (basis_of st)
+  pub solved : IsSolvedAfresh f st
 
-  pub last_basis : IsBasis (bounds_form (length st.head) bounds) (basis_of st)
-  last_basis = basis_by_bounds f (basis_of st) bounds r.has_bounds r.basis
+last_read : (f : Form) (state : State) (st : method.State) (s : Fresh) → IsLast f state st s → IsRead f state
+last_read f state st s l = record { basis = l.basis; solved = l.solved }
 
--- the text of an optimal answer, from the list of all values
-pub optimal_text_is : (c : Contents) (bounds : List Bounds) (st : State) (list : List Fraction) (begun o r : List ℕ) → IsReadable (model_form c) bounds st →
-    ((f : Form) → HasBounds f bounds → (a : IsSolvedAfresh f st) → list ≡ a.fresh.values) → o ≡ begun → r ≡ o ++ optimal_text c list st.reduced (basis_of st) →
-    (s : IsSolvedAfresh (model_form c) st) → r ≡ begun ++ optimal_text c s.fresh.values s.fresh.reduced (basis_of st)
-optimal_text_is c bounds st list begun o r h v e k s =
-    k ∙ ap (λ z. z ++ optimal_text c list st.reduced (basis_of st)) e
-    ∙ ap (λ z. begun ++ optimal_text c z st.reduced (basis_of st)) (v (model_form c) h.has_bounds s)
-    ∙ ap (λ z. begun ++ optimal_text c s.fresh.values z (basis_of st)) s.reduced
+pub optimal_read : (f : Form) (state : State) → IsReadable f (answers.Optimal state) → IsRead f state
+optimal_read f state (phases.Optimal st s, l) = last_read f state st s l
+optimal_read f state (a, is) = absurd is
+
+pub boxes_read : (f : Form) (state : State) (boxes : ProgramForm) → IsReadable f (answers.DualInfeasible state boxes) → IsRead (boxes_of f) state × (form_of boxes ≡ boxes_of f)
+boxes_read f state boxes (phases.DualInfeasible st s, l) = (last_read (boxes_of f) state st s l.0, l.1)
+boxes_read f state boxes (a, is) = absurd is
+
+module _ (f : Form) (bounds : List Bounds) (st : State) (has : HasBounds f bounds) (r : IsRead f st) where
+  pub read_values : length st.values ≡ length st.head
+  read_values = values_by_head f st r.basis r.solved
+
+  pub read_basis : IsBasis (bounds_form (length st.head) bounds) (basis_of st)
+  read_basis = basis_by_bounds f (basis_of st) bounds has r.basis
+
+-- the boxes have the bounds of their form
+pub boxes_bounds : (f : Form) (boxes : ProgramForm) → form_of boxes ≡ boxes_of f → HasBounds (boxes_of f) boxes.bounds
+boxes_bounds f boxes is = subst (λ g. HasBounds g boxes.bounds) is (has_bounds boxes.columns boxes.bounds boxes.costs boxes.kept.form)
+
+-- ---- lines
+-- the lines of an answer with a state are those of the method's
+module _ (c : Contents) (o r : List ℕ) where
+  abbrev pub IsTextOfAnswer : Answer → Type 0
+  IsTextOfAnswer answer = (a : phases.Answer) → IsAnswerOf (model_form c) answer a → r ≡ o ++ text (answer_lines (named_of c) a)
+
+  pub optimal_lines_are : (state : State) (values : List Fraction) → ((s : IsSolvedAfresh (model_form c) state) → values ≡ s.fresh.values) → r ≡ o ++ optimal_text c values state.reduced (basis_of state) → IsTextOfAnswer (answers.Optimal state)
+  optimal_lines_are state values v e (phases.Optimal st s) l =
+      e ∙ ap (λ x. o ++ optimal_text c x state.reduced (basis_of state)) (v l.solved)
+      ∙ ap (λ x. o ++ optimal_text c l.solved.fresh.values x (basis_of state)) l.solved.reduced
+      ∙ ap (λ (x : Fresh). o ++ optimal_text c x.values x.reduced (basis_of state)) l.fresh
+      ∙ ap (λ b. o ++ optimal_text c s.values s.reduced b) (sym l.same)
+  optimal_lines_are state values v e a l = absurd l
+
+  pub dual_infeasible_lines_are : (state : State) (boxes : ProgramForm) (z : List Fraction) → ((s : IsSolvedAfresh (boxes_of (model_form c)) state) → z ≡ s.fresh.values) → r ≡ o ++ dual_infeasible_text c z
+      → IsTextOfAnswer (answers.DualInfeasible state boxes)
+  dual_infeasible_lines_are state boxes z v e (phases.DualInfeasible st s) l =
+      e ∙ ap (λ x. o ++ dual_infeasible_text c x) (v l.0.solved ∙ ap (λ (x : Fresh). x.values) l.0.fresh)
+  dual_infeasible_lines_are state boxes z v e a l = absurd l

@@ -2,6 +2,7 @@
 use Rattle.std.proofs.lemmas.List.{length-replicate}
 use Rattle.std.proofs.Common.{suc, ◌≡◌, ℕ, ◌<◌, ◌⊎◌, inl, inr, Bool, List, length, Option, None, Some, Result, Ok, Err, refl, sym, ap, ◌∙◌, subst, arith, replicate}
 use Rattle.std.specs.Result.{IfOk, OnErr}
+use Rattle.pami_algebra.specs.Fraction.{Fraction}
 use Rattle.pami_frac.specs.declared.fault.OutOfMemory.{OutOfMemory}
 use Rattle.pami_edge.specs.Outside.{Files, HasFile, HasLongFile}
 use Rattle.pami_edge.specs.Calls.{ShelfFailed, SinkFailed, Wrote, WroteNothing}
@@ -11,14 +12,16 @@ use Rattle.pami_words.specs.declared.command.Command.TheVariants.{Solve}
 use Rattle.pami_model.specs.Contents.{Contents}
 use Rattle.pami_model.specs.declared.fault.FileFault.{FileFault}
 use Rattle.pami_model.specs.Rules.{byte_limit}
+use Rattle.pami_theory.specs.Certificate.{IsDualPoint}
+use Rattle.pami_model_form.specs.ModelForm.{model_form}
 use Rattle.pami_cli.specs.declared.status.Status.{Status}
 use Rattle.pami_cli.specs.declared.status.Status.TheVariants as statuses
 use Rattle.pami_cli.specs.declared.answer.Answer.{Answer}
 use Rattle.pami_cli.specs.Text.{refused_text}
 use Rattle.pami_cli.specs.Reading.{Format, format_by, IsTextOf, IsFirstFaultOf}
 use Rattle.pami_cli.specs.Answer.{AnswersModel, AnswersWide}
-use Rattle.pami_cli.specs.Run.{Answers, IsModelAnswer, IsRefused, Refuses, WaitsForPhaseOne, IsFileRefused, IsAnswered, IsDue, IsWrittenBy, IsComplete, Call, AskFor, AreBad, Ends, IsOrFault}
-use Rattle.pami_cli.proofs.Answers.{one_model_answer, refused_model_is_wide, model_waits}
+use Rattle.pami_cli.specs.Run.{Answers, IsModelAnswer, IsRefused, Refuses, IsFileRefused, IsAnswered, IsDue, IsWrittenBy, IsComplete, Call, AskFor, AreBad, Ends, IsOrFault}
+use Rattle.pami_cli.proofs.Answers.{one_model_answer, refused_model_is_wide, dual_infeasible_model}
 use Rattle.pami_cli.proofs.Readings.{one_text, one_refusal, text_or_fault, long_fault, long_first}
 
 some_same : {A : Type 0} {x y : A} → Some x ≡ Some y → x ≡ y
@@ -93,12 +96,10 @@ module _ (format : Format) (bytes : List ℕ) (limit : ℕ) where
   refuses w (inl a) = inr (a.model, a.text_of, refused_model_is_wide a.model limit w a.answer)
   refuses w (inr b) = inl b
 
-  -- and status 30 for a model that waits for phase one
-  pub waits : (w : List ℕ) → Answers format bytes limit statuses.NeedsPhaseOne w → WaitsForPhaseOne format bytes w
-  waits w (inl a) =
-      let m = model_waits a.model limit w a.answer in
-      record { model = a.model; text_of = a.text_of; widths = m.0; answer = m.1 }
-  waits w (inr b) = let e = b.status_is in absurd cc
+  -- and status 11 for a model whose dual program has no point
+  pub no_dual_point : (w : List ℕ) → Answers format bytes limit statuses.DualInfeasible w → (c : Contents) → IsTextOf format bytes c → (y d : ℕ → Fraction) → ¬ IsDualPoint (model_form c) y d
+  no_dual_point w (inl a) c text = subst (λ m. (y d : ℕ → Fraction) → ¬ IsDualPoint (model_form m) y d) (one_text format bytes a.model c a.text_of text) (dual_infeasible_model a.model limit w a.answer)
+  no_dual_point w (inr b) c text = let e = b.status_is in absurd cc
 
 -- exactly that answer, or a fault in its place
 abbrev IsExactly : Call → Status → Status → List ℕ → Type 0

@@ -1,13 +1,12 @@
--- What `solve` answers on a model: the run of its form, with the text of its record and the status of its answer, or that it
--- has none.
+-- What `solve` answers on a model: the run of its form, with the text of its record and the status of its answer; or, where a
+-- width doesn't fit, that it is refused.
 use Rattle.std.specs.Prelude.{◌≡◌, ℕ, ◌⊎◌, List, None, Some}
 use Rattle.pami_linear.specs.Lists.{get}
 use Rattle.pami_model.specs.Contents.{Contents}
-use Rattle.pami_theory.specs.Fresh.{Fresh, IsFresh, IsDualFeasible}
-use Rattle.pami_theory.specs.Start.{starting_basis}
+use Rattle.pami_theory.specs.Fresh.{Fresh}
 use Rattle.pami_theory.specs.Certificate.{HoldsOptimal, HoldsInfeasible, HoldsDualInfeasible, HoldsObjective}
 use Rattle.pami_method.specs.declared.words.Options.{Options}
-use Rattle.pami_method.specs.Phases.{Record, Answer, Optimal, Infeasible, DualInfeasible, Limit, Overflow, IsRun, start_refused}
+use Rattle.pami_method.specs.Phases.{Record, Answer, Optimal, Infeasible, DualInfeasible, Limit, Overflow, IsRun}
 use Rattle.pami_lines.specs.Certificate.{objective_in}
 use Rattle.pami_cli.specs.declared.status.Status.{Status}
 use Rattle.pami_cli.specs.declared.status.Status.TheVariants as statuses
@@ -15,17 +14,17 @@ use Rattle.pami_model_form.specs.ModelForm.{model_form}
 use Rattle.pami_model_form.specs.Named.{named_of}
 use Rattle.pami_form.specs.declared.form.WideBox.{WideBox}
 use Rattle.pami_form.specs.Widths.{first_wide}
-use Rattle.pami_cli.specs.Text.{run_text, phase_one_text, wide_text}
+use Rattle.pami_cli.specs.Text.{run_text, wide_text}
 
 -- one row a major, a new elimination in each, and this limit of pivots
 abbrev pub options_of : ℕ → Options
 options_of limit = record { batch = 1; refactor = 0; limit = limit }
 
--- the status that goes with an answer; none goes with one that phase one alone can give
+-- the status that goes with an answer
 abbrev pub HasStatus : Answer → Status → Type 0
 HasStatus (Optimal st s) status = status ≡ statuses.Good
 HasStatus (Infeasible y) status = status ≡ statuses.Infeasible
-HasStatus (DualInfeasible st s) status = ⊥
+HasStatus (DualInfeasible st s) status = status ≡ statuses.DualInfeasible
 HasStatus (Limit st) status = status ≡ statuses.Limit
 HasStatus (Overflow refused) status = status ≡ statuses.Overflow
 
@@ -42,33 +41,19 @@ HoldsFor c (DualInfeasible st s) = HoldsDualInfeasible (model_form c) (get s.val
 HoldsFor c (Limit st) = Unit {0}
 HoldsFor c (Overflow refused) = Unit {0}
 
--- the run of the model's form, which begins in phase two
+-- the run of the model's form
 pub record AnswersRun (c : Contents) (limit : ℕ) (status : Status) (written : List ℕ) : Type 0 where
   pub told : Record
   pub answer : Answer
   pub run : IsRun (model_form c) (options_of limit) told answer
-  pub without_phase_one : told.phase_one ≡ None
   pub has_status : HasStatus answer status
   pub holds : HoldsFor c answer
   pub written_is : written ≡ run_text c (options_of limit) told answer
 
--- the starting values fit, and the starting basis isn't dual feasible
-pub record AnswersPhaseOne (c : Contents) (status : Status) (written : List ℕ) : Type 0 where
-  pub start : Fresh
-  pub fresh : IsFresh (model_form c) (starting_basis (model_form c)) start
-  pub fits : start_refused (model_form c) start ≡ None
-  pub not_dual_feasible : ¬ IsDualFeasible (model_form c) (starting_basis (model_form c))
-  pub status_is : status ≡ statuses.NeedsPhaseOne
-  pub written_is : written ≡ phase_one_text
-
--- what a model is answered by its form: the run, or that phase one is needed
-abbrev pub AnswersForm : Contents → ℕ → Status → List ℕ → Type 0
-AnswersForm c limit status written = AnswersRun c limit status written ⊎ AnswersPhaseOne c status written
-
 -- every width of the form fits
 pub record AnswersFitting (c : Contents) (limit : ℕ) (status : Status) (written : List ℕ) : Type 0 where
   pub widths : first_wide (model_form c).bounds ≡ None
-  pub answer : AnswersForm c limit status written
+  pub run : AnswersRun c limit status written
 
 -- a width doesn't fit: the model is refused at the least such variable
 pub record AnswersWide (c : Contents) (status : Status) (written : List ℕ) : Type 0 where

@@ -1,5 +1,5 @@
 -- What a run answers on the words of a call and the bytes under FILE, and how a call may end.
-use Rattle.std.specs.Prelude.{◌≡◌, ℕ, ◌⊎◌, Bool, List, [], ◌∷◌, None, Ok, Err}
+use Rattle.std.specs.Prelude.{◌≡◌, ℕ, ◌⊎◌, Bool, List, [], ◌∷◌, Ok, Err}
 use Rattle.pami_edge.specs.Outside.{HasFile}
 use Rattle.pami_edge.specs.Calls.{ShelfCall, SinkCall, ShelfFailed, SinkFailed, Wrote, WrotePart, WroteNothing}
 use Rattle.pami_words.specs.declared.command.Command.TheVariants.{Solve}
@@ -7,11 +7,9 @@ use Rattle.pami_words.specs.Words.{read_outcome}
 use Rattle.pami_model.specs.declared.fault.FileFault.{FileFault}
 use Rattle.pami_model.specs.Contents.{Contents}
 use Rattle.pami_cli.specs.declared.status.Status.{Status}
-use Rattle.pami_cli.specs.declared.status.Status.TheVariants.{Words, File, ReadFault, WriteFault, OutOfMemory, NeedsPhaseOne}
-use Rattle.pami_form.specs.Widths.{first_wide}
-use Rattle.pami_model_form.specs.ModelForm.{model_form}
+use Rattle.pami_cli.specs.declared.status.Status.TheVariants.{Words, File, ReadFault, WriteFault, OutOfMemory}
 use Rattle.pami_cli.specs.Reading.{Format, format_by, IsTextOf, IsFirstFaultOf}
-use Rattle.pami_cli.specs.Answer.{AnswersModel, AnswersWide, AnswersPhaseOne}
+use Rattle.pami_cli.specs.Answer.{AnswersModel, AnswersWide}
 use Rattle.pami_cli.specs.Text.{bad_words_text, refused_text, read_fault_text}
 
 -- the bytes are a text of a model that is answered so
@@ -36,13 +34,6 @@ Answers format bytes limit status written =
 abbrev pub Refuses : Format → List ℕ → List ℕ → Type 0
 Refuses format bytes written =
     IsRefused format bytes File written ⊎ ((c : Contents) × IsTextOf format bytes c × AnswersWide c File written)
-
--- the file is a text of a model whose widths and starting values fit, and whose starting basis isn't dual feasible
-pub record WaitsForPhaseOne (format : Format) (bytes written : List ℕ) : Type 0 where
-  pub model : Contents
-  pub text_of : IsTextOf format bytes model
-  pub widths : first_wide (model_form model).bounds ≡ None
-  pub answer : AnswersPhaseOne model NeedsPhaseOne written
 
 -- the words ask to solve this file, which is LP or else MPS, with this limit of pivots; they are in no table
 abbrev pub AskFor : List (List ℕ) → List ℕ → Bool → ℕ → Type 0

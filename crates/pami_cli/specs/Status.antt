@@ -1,7 +1,7 @@
 -- The exit status of each way to end.
 use Rattle.std.specs.Prelude.{ℕ}
 use Rattle.pami_cli.specs.declared.status.Status.{Status}
-use Rattle.pami_cli.specs.declared.status.Status.TheVariants.{Good, Words, File, ReadFault, WriteFault, OutOfMemory, Infeasible, Limit, Overflow, NeedsPhaseOne}
+use Rattle.pami_cli.specs.declared.status.Status.TheVariants.{Good, Words, File, ReadFault, WriteFault, OutOfMemory, Infeasible, DualInfeasible, Limit, Overflow}
 
 abbrev pub code_of : Status → ℕ
 code_of Good = 0
@@ -11,6 +11,6 @@ code_of ReadFault = 4
 code_of WriteFault = 5
 code_of OutOfMemory = 6
 code_of Infeasible = 10
+code_of DualInfeasible = 11
 code_of Limit = 12
 code_of Overflow = 13
-code_of NeedsPhaseOne = 30

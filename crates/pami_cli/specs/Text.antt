@@ -10,10 +10,10 @@ use Rattle.pami_theory.specs.Basis.{Basis, stand_at}
 use Rattle.pami_method.specs.declared.words.Options.{Options}
 use Rattle.pami_method.specs.Phases.{Record, Answer}
 use Rattle.pami_lines.specs.Line.{line, text}
-use Rattle.pami_lines.specs.Head.{head_lines, phase_line}
+use Rattle.pami_lines.specs.Head.{head_lines}
 use Rattle.pami_lines.specs.Names.{variable_word}
 use Rattle.pami_lines.specs.Letters.{basis_line}
-use Rattle.pami_lines.specs.Certificate.{optimal_lines, answer_line, certificate_of}
+use Rattle.pami_lines.specs.Certificate.{optimal_lines, dual_infeasible_lines, answer_line, certificate_of}
 use Rattle.pami_text.specs.Record.{run_lines}
 use Rattle.pami_log.specs.declared.event.Event.{Event}
 use Rattle.pami_model_form.specs.Named.{names_of, counts_of, named_of}
@@ -23,10 +23,10 @@ use Rattle.pami_log.specs.Events.{event_lines}
 abbrev pub run_text : Contents → Options → Record → Answer → List ℕ
 run_text c o told answer = text (run_lines (named_of c) o told answer)
 
--- the first lines of a run in phase two, up to its answer, from the events of its walk
+-- the first lines of a run, up to its answer, from the events that are told of it
 abbrev pub begun_text : Contents → List Event → List ℕ
 begun_text c events =
-    text (head_lines (counts_of c)) ++ (line (phase_line 2) ++ flat_map (λ (e : Event). text (event_lines (names_of c) (counts_of c) e)) events)
+    text (head_lines (counts_of c)) ++ flat_map (λ (e : Event). text (event_lines (names_of c) (counts_of c) e)) events
 
 -- the last lines of a run: values and reduced costs by variable with the basis that they are solved at
 abbrev pub optimal_text : Contents → (values reduced : List Fraction) → Basis → List ℕ
@@ -36,6 +36,10 @@ optimal_text c values reduced b =
 -- the same at the limit: the count of pivots, and the basis
 abbrev pub limit_text : Contents → ℕ → Basis → List ℕ
 limit_text c count b = text (answer_line (codes "limit" ∷ decimal count ∷ []) ∷ basis_line (counts_of c) (stand_at b) ∷ [])
+
+-- a direction, by variable, along which the cost falls without end
+abbrev pub dual_infeasible_text : Contents → List Fraction → List ℕ
+dual_infeasible_text c z = text (answer_line (codes "dual-infeasible" ∷ []) ∷ dual_infeasible_lines (named_of c) z)
 
 abbrev pub bad_words_text : List ℕ
 bad_words_text = codes "bad words\n"
@@ -50,6 +54,3 @@ wide_text c v = line (codes "refused" ∷ decimal 0 ∷ codes "width" ∷ variab
 
 abbrev pub read_fault_text : List ℕ
 read_fault_text = codes "read fault\n"
-
-abbrev pub phase_one_text : List ℕ
-phase_one_text = codes "needs phase one\n"

@@ -1,9 +1,13 @@
 //! What holds of every answer on a file.
 
 ghost use Rattle.std.specs.Prelude.{◌≡◌, ℕ, List};
+ghost use Rattle.pami_algebra.specs.Fraction.{Fraction};
+ghost use Rattle.pami_model.specs.Contents.{Contents};
+ghost use Rattle.pami_theory.specs.Certificate.{IsDualPoint};
+ghost use Rattle.pami_model_form.specs.ModelForm.{model_form};
 ghost use Rattle.pami_cli.specs.declared.status.Status.{Status};
-ghost use Rattle.pami_cli.specs.Reading.{Format};
-ghost use Rattle.pami_cli.specs.Run.{Answers, Refuses, WaitsForPhaseOne};
+ghost use Rattle.pami_cli.specs.Reading.{Format, IsTextOf};
+ghost use Rattle.pami_cli.specs.Run.{Answers, Refuses};
 
 /// A file has one answer: one status and one text.
 pub fn files_have_one_answer()
@@ -11,11 +15,15 @@ pub fn files_have_one_answer()
         → Answers format bytes limit s w → Answers format bytes limit t v → (s ≡ t) × (w ≡ v) }
 {}
 
-/// Only a file with a first fault, or with a width that doesn't fit, is refused; and only one that is accepted, whose widths
-/// and starting values fit and whose starting basis isn't dual feasible, waits for phase one.
-pub fn statuses_have_their_causes()
-    ensures refused { (format : Format) (bytes : List ℕ) (limit : ℕ) (written : List ℕ)
+/// Only a file with a first fault, or with a width that doesn't fit, is refused.
+pub fn refused_files_have_a_fault()
+    ensures { (format : Format) (bytes : List ℕ) (limit : ℕ) (written : List ℕ)
         → Answers format bytes limit Status.File written → Refuses format bytes written }
-    ensures waits { (format : Format) (bytes : List ℕ) (limit : ℕ) (written : List ℕ)
-        → Answers format bytes limit Status.NeedsPhaseOne written → WaitsForPhaseOne format bytes written }
+{}
+
+/// Where a file is answered dual infeasible, no y and d are a point of the dual program of its model.
+pub fn dual_infeasible_files_have_no_dual_point()
+    ensures { (format : Format) (bytes : List ℕ) (limit : ℕ) (written : List ℕ)
+        → Answers format bytes limit Status.DualInfeasible written
+        → (c : Contents) → IsTextOf format bytes c → (y d : ℕ → Fraction) → ¬ IsDualPoint (model_form c) y d }
 {}

@@ -1,4 +1,5 @@
-//! The lines of certificates: values and reduced costs with the objective, and the ray of a row that no point meets.
+//! The lines of certificates: values and reduced costs with the objective, the multipliers of rows that no point meets, and
+//! the direction along which the cost falls without end.
 
 ghost use Rattle.std.specs.Prelude.{◌≡◌, ◌<◌, ◌≤◌, ◌+◌, ◌∷◌, [], ◌++◌, OnOk, codes, length, map};
 ghost use Rattle.pami_frac.specs.Printed.{printed};
@@ -8,7 +9,6 @@ ghost use Rattle.pami_theory.specs.Form.{zero_f};
 ghost use Rattle.pami_model.specs.Rules.{names_of_columns, names_of_rows};
 ghost use Rattle.pami_model.specs.Contents.{contents};
 ghost use Rattle.pami_model_form.specs.ModelForm.{member};
-ghost use Rattle.pami_method.specs.Phases.{ray};
 ghost use Rattle.pami_lines.specs.Line.{line, text};
 ghost use Rattle.pami_lines.specs.Certificate.{objective_word, optimal_lines, valued_from, valued_line, certificate_of, named_lines, kept_or_none};
 ghost use Rattle.pami_model_form.specs.Named.{named_of};
@@ -16,7 +16,7 @@ ghost use Rattle.pami_model_form.specs.Named.{named_of};
 use pami_frac::{Frac, OutOfMemory};
 use pami_model::{Column, Model, Row};
 use pami_script::plain::add_product;
-use pami_vec::{Side, SpVec};
+use pami_vec::SpVec;
 
 /// The sum with one product more. None where an operation doesn't fit.
 fn with_product(t: Frac, cost: Frac, value: Frac) -> Option<Frac>
@@ -148,30 +148,73 @@ pub fn push_certificate(
     Ok(())
 }
 
-/// A member of the ray of a row without an entering variable: the row, turned so that the distance counts upward.
-/// `row` goes by row of the model.
-fn ray_member(side: Side, row: &SpVec, i: u32) -> Frac
-    requires { i < length row.now }
-    ensures { result ≡ get (ray side row.now) i }
-{
-    side.toward(row.at(i))
-}
-
-/// The lines of the rows, each with its member of the ray. `row` goes by row of the model, as the rows do.
+/// The line of a variable or of a row: a tag, its name and its member.
 ///
 /// # Errors
 ///
 /// `OutOfMemory` alone.
-pub fn push_ray(out: &mut Vec<u8>, rows: &[Row], side: Side, row: &SpVec) -> Result<(), OutOfMemory>
-    requires { length rows.now ≡ length row.now }
-    ensures { OnOk result (out.new.items ≡ out.old.items ++ text (named_lines (codes "r") 0 (names_of_rows rows.now) (get (ray side row.now)))) }
+fn push_member(out: &mut Vec<u8>, tag: u8, name: &[u8], member: &Frac) -> Result<(), OutOfMemory>
+    ensures { OnOk result (out.new.items ≡ out.old.items ++ line ((tag ∷ []) ∷ name.now ∷ printed member.now ∷ [])) }
 {
-    for i in 0..row.len() {
-        out.extend_from_slice(b"r ")?;
-        out.extend_from_slice(rows[i as usize].name.as_slice())?;
-        out.push(b' ')?;
-        ray_member(side, row, i).append_to(out)?;
-        out.push(b'\n')?;
+    out.push(tag)?;
+    out.push(b' ')?;
+    out.extend_from_slice(name)?;
+    out.push(b' ')?;
+    member.append_to(out)?;
+    out.push(b'\n')?;
+    Ok(())
+}
+
+/// The lines of the columns, whose members are the first of these.
+///
+/// # Errors
+///
+/// `OutOfMemory` alone.
+pub fn push_column_members(
+    out: &mut Vec<u8>,
+    columns: &[Column],
+    z: &[Frac],
+) -> Result<(), OutOfMemory>
+    requires { length columns.now ≤ length z.now }
+    ensures { OnOk result (out.new.items ≡ out.old.items ++ text (named_lines (codes "x") 0 (names_of_columns columns.now) (get z.now))) }
+{
+    for (j, column) in columns.iter().enumerate() {
+        push_member(out, b'x', column.name.as_slice(), &z[j])?;
+    }
+    Ok(())
+}
+
+/// The lines of the rows, whose members begin behind those of the columns.
+///
+/// # Errors
+///
+/// `OutOfMemory` alone.
+pub fn push_row_members(
+    out: &mut Vec<u8>,
+    rows: &[Row],
+    columns: usize,
+    z: &[Frac],
+) -> Result<(), OutOfMemory>
+    requires { columns + length rows.now ≤ length z.now }
+    ensures { OnOk result (out.new.items ≡ out.old.items ++ text (named_lines (codes "r") columns (names_of_rows rows.now) (get z.now))) }
+{
+    for (i, row) in rows.iter().enumerate() {
+        push_member(out, b'r', row.name.as_slice(), &z[columns + i])?;
+    }
+    Ok(())
+}
+
+/// The lines of the rows, each with its member of y, which goes by row of the model, as the rows do.
+///
+/// # Errors
+///
+/// `OutOfMemory` alone.
+pub fn push_ray(out: &mut Vec<u8>, rows: &[Row], y: &SpVec) -> Result<(), OutOfMemory>
+    requires { length rows.now ≡ length y.now }
+    ensures { OnOk result (out.new.items ≡ out.old.items ++ text (named_lines (codes "r") 0 (names_of_rows rows.now) (get y.now))) }
+{
+    for i in 0..y.len() {
+        push_member(out, b'r', rows[i as usize].name.as_slice(), &y.at(i))?;
     }
     Ok(())
 }

@@ -3,23 +3,23 @@
 ghost use Rattle.std.specs.Prelude.{◌≡◌, ◌≤◌, ◌+◌, ◌∷◌, [], ◌++◌, IfOk, OnOk, decimal, codes, length, take, drop};
 ghost use Rattle.std.specs.List.{flat_map};
 ghost use Rattle.pami_model.specs.Contents.{contents};
-ghost use Rattle.pami_method.specs.Phases.{Answer, ray};
+ghost use Rattle.pami_method.specs.Phases.{Answer};
 ghost use Rattle.pami_state.specs.State.{basis_of};
 ghost use Rattle.pami_lines.specs.Line.{line, text};
 ghost use Rattle.pami_lines.specs.Letters.{letters};
 ghost use Rattle.pami_text.specs.Record.{answer_lines, refused_words};
 ghost use Rattle.pami_model_form.specs.Named.{names_of, counts_of, named_of};
 ghost use Rattle.pami_log.specs.Events.{event_lines};
-ghost use Rattle.pami_cli.specs.Text.{begun_text, optimal_text, limit_text};
+ghost use Rattle.pami_cli.specs.Text.{begun_text, optimal_text, limit_text, dual_infeasible_text};
 
-use crate::certificate::{push_certificate, push_ray};
+use crate::certificate::{push_certificate, push_column_members, push_ray, push_row_members};
 use itoa::Buffer;
 use pami_frac::{Frac, OutOfMemory};
 use pami_lines::letter_of;
 use pami_log::{Event, Place, push_event, push_place};
 use pami_model::Model;
 use pami_state::State;
-use pami_vec::{Side, SpVec, Stand};
+use pami_vec::{SpVec, Stand};
 use std::alloc::Global;
 
 /// A whole number.
@@ -107,22 +107,34 @@ pub fn push_limit(out: &mut Vec<u8>, model: &Model, state: &State) -> Result<(),
     push_basis(out, model.columns.as_slice().len(), state.stands.as_slice())
 }
 
-/// The last lines of a run that ended at a row without an entering variable, whose variable is outside on this side.
+/// The last lines of a run that found no feasible point; y goes by row.
 ///
 /// # Errors
 ///
 /// `OutOfMemory` alone.
-pub fn push_infeasible(
-    out: &mut Vec<u8>,
-    model: &Model,
-    side: Side,
-    row: &SpVec,
-) -> Result<(), OutOfMemory>
-    requires { length (contents model.now).rows ≡ length row.now }
-    ensures { OnOk result (out.new.items ≡ out.old.items ++ text (answer_lines (named_of (contents model.now)) (Answer.Infeasible (ray side row.now)))) }
+pub fn push_infeasible(out: &mut Vec<u8>, model: &Model, y: &SpVec) -> Result<(), OutOfMemory>
+    requires { length (contents model.now).rows ≡ length y.now }
+    ensures { OnOk result (out.new.items ≡ out.old.items ++ text (answer_lines (named_of (contents model.now)) (Answer.Infeasible y.now))) }
 {
     out.extend_from_slice(b"answer infeasible\ncertificate 1 infeasible\n")?;
-    push_ray(out, model.rows.as_slice(), side, row)?;
+    push_ray(out, model.rows.as_slice(), y)?;
+    out.extend_from_slice(b"end\n")?;
+    Ok(())
+}
+
+/// The last lines of a run that found a direction along which the cost falls without end; z goes by variable.
+///
+/// # Errors
+///
+/// `OutOfMemory` alone.
+pub fn push_dual_infeasible(out: &mut Vec<u8>, model: &Model, z: &[Frac]) -> Result<(), OutOfMemory>
+    requires { length (contents model.now).columns + length (contents model.now).rows ≡ length z.now }
+    ensures { OnOk result (out.new.items ≡ out.old.items ++ dual_infeasible_text (contents model.now) z.now) }
+{
+    let columns = model.columns.as_slice();
+    out.extend_from_slice(b"answer dual-infeasible\ncertificate 1 dual-infeasible\n")?;
+    push_column_members(out, columns, z)?;
+    push_row_members(out, model.rows.as_slice(), columns.len(), z)?;
     out.extend_from_slice(b"end\n")?;
     Ok(())
 }
@@ -155,7 +167,7 @@ fn push_events(out: &mut Vec<u8>, model: &Model, events: &[Event]) -> Result<(),
     Ok(())
 }
 
-/// The first lines of a run in phase two, from the events of its walk.
+/// The first lines of a run, from the events that were told of it.
 ///
 /// # Errors
 ///
@@ -165,7 +177,6 @@ pub fn begun(alloc: Global, model: &Model, events: &[Event]) -> Result<Vec<u8>, 
 {
     let mut out = Vec::new(alloc);
     push_event(&mut out, model, &Event::Header)?;
-    push_event(&mut out, model, &Event::Phase(2))?;
     push_events(&mut out, model, events)?;
     Ok(out)
 }

@@ -20,12 +20,12 @@ pub enum Status {
     OutOfMemory,
     /// No point meets the model.
     Infeasible,
+    /// A direction never leaves what the bounds allow, and the cost falls along it.
+    DualInfeasible,
     /// No more pivots were allowed.
     Limit,
     /// A number didn't fit.
     Overflow,
-    /// The starting basis isn't dual feasible.
-    NeedsPhaseOne,
 }
 
 impl Status {
@@ -41,9 +41,9 @@ impl Status {
             Status::WriteFault => 5,
             Status::OutOfMemory => 6,
             Status::Infeasible => 10,
+            Status::DualInfeasible => 11,
             Status::Limit => 12,
             Status::Overflow => 13,
-            Status::NeedsPhaseOne => 30,
         }
     }
 }

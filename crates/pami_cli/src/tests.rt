@@ -158,21 +158,98 @@ fn starts_where_the_bounds_say(rt: HostRuntime) -> Result<(), Fail> {
                 13,
                 "pami 1|model 1 2 2|answer overflow start add 100000000000000000000000000000000000000 100000000000000000000000000000000000000|",
             ),
-            // Not dual feasible: a cost below 0 with no upper bound, one above 0 with no lower one, a free column of cost.
+        ],
+    )
+}
+
+const RISING: &str =
+    "OBJSENSE MAX|ROWS| N c| L c1| L c2|COLUMNS| x c 1 c1 1| x c2 1|RHS| c1 3 c2 2|ENDATA|";
+
+/// Starts that aren't dual feasible: phase one in the boxes, and phase two behind the switch.
+#[test]
+fn answers_behind_phase_one(rt: HostRuntime) -> Result<(), Fail> {
+    let alloc = rt.alloc();
+    are_answered(
+        &rt,
+        alloc,
+        "",
+        &[
+            (
+                "OBJSENSE MAX|ROWS| N c| L c1|COLUMNS| x c 1 c1 1|RHS| c1 3|ENDATA|",
+                0,
+                "pami 1|model 1 1 1|phase 1|major 1 full 0|pivot 1 0 r:c1 U x:x 1|phase 2|answer optimal|certificate 1 optimal|objective 3|x x 3 0|r c1 3 -1|end|basis B U|",
+            ),
             (
                 "NAME T|ROWS| N c| L c1| G c2|COLUMNS| x c -1 c1 2| x c2 1|RHS| c1 5|ENDATA|",
-                30,
-                "needs phase one|",
+                0,
+                "pami 1|model 2 1 2|phase 1|major 1 full 0|pivot 1 0 r:c1 U x:x 1/2|phase 2|answer optimal|certificate 1 optimal|objective -5/2|x x 5/2 0|r c1 5 -1/2|r c2 5/2 0|end|basis B UB|",
             ),
+            // Pivots are counted and majors are numbered over both phases.
+            (
+                RISING,
+                0,
+                "pami 1|model 2 1 2|phase 1|major 1 full 0|pivot 1 0 r:c1 U x:x 1|phase 2|major 2 full 1|pivot 2 1 r:c2 U r:c1 1|answer optimal|certificate 1 optimal|objective 2|x x 2 0|r c1 2 0|r c2 2 -1|end|basis B BU|",
+            ),
+            // A cost above 0 with no lower bound; behind the switch a, which is to be at most -3, is 6.
             (
                 "NAME T|ROWS| N COST| E e1| E e2| L l1|COLUMNS| a COST 1 e1 1| a e2 1 l1 1| b l1 1|RHS| e1 10 e2 10| l1 7|RANGES| RNG e1 -4 e2 0|BOUNDS| UP BND a -3| MI b|ENDATA|",
-                30,
-                "needs phase one|",
+                10,
+                "pami 1|model 3 2 4|phase 1|major 1 full 0|pivot 1 0 r:e1 L x:a 1|phase 2|major 2 full 0|none 0 x:a|answer infeasible|certificate 1 infeasible|r e1 1|r e2 0|r l1 0|end|",
             ),
+        ],
+    )?;
+    are_answered(
+        &rt,
+        alloc,
+        "1",
+        &[(
+            RISING,
+            12,
+            "pami 1|model 2 1 2|phase 1|major 1 full 0|pivot 1 0 r:c1 U x:x 1|phase 2|answer limit 1|basis B UB|",
+        )],
+    )?;
+    are_answered(
+        &rt,
+        alloc,
+        "0",
+        &[(
+            RISING,
+            12,
+            "pami 1|model 2 1 2|phase 1|answer limit 0|basis U BB|",
+        )],
+    )
+}
+
+/// Runs that end in phase one or at the switch.
+#[test]
+fn costs_may_fall_without_end(rt: HostRuntime) -> Result<(), Fail> {
+    are_answered(
+        &rt,
+        rt.alloc(),
+        "",
+        &[
+            (
+                "OBJSENSE MAX|ROWS| N c| L c1|COLUMNS| x c 1 c1 1| y c1 -1|RHS| c1 1|BOUNDS| FR y|ENDATA|",
+                11,
+                "pami 1|model 1 2 2|phase 1|major 1 full 0|pivot 1 0 r:c1 U x:y 0|answer dual-infeasible|certificate 1 dual-infeasible|x x 1|x y 1|r c1 0|end|",
+            ),
+            // A free column of cost, with no row.
             (
                 "ROWS| N c|COLUMNS| x c 1|BOUNDS| FR x|ENDATA|",
-                30,
-                "needs phase one|",
+                11,
+                "pami 1|model 0 1 0|phase 1|answer dual-infeasible|certificate 1 dual-infeasible|x x -1|end|",
+            ),
+            // The starting values in the boxes don't fit: x and y are 1 there.
+            (
+                "ROWS| N c| L r|COLUMNS| x c -1 r 1e38| y c -1 r 1e38|ENDATA|",
+                13,
+                "pami 1|model 1 2 2|phase 1|answer overflow start add 100000000000000000000000000000000000000 100000000000000000000000000000000000000|",
+            ),
+            // Behind the switch x would be 9 times 10^38.
+            (
+                "ROWS| N c| L r|COLUMNS| x c -1 r 1e-19|RHS| r 9e19|ENDATA|",
+                13,
+                "pami 1|model 1 1 1|phase 1|major 1 full 0|pivot 1 0 r:r U x:x 10000000000000000000|phase 2|answer overflow switch div 90000000000000000000 1/10000000000000000000|",
             ),
         ],
     )

@@ -1,12 +1,11 @@
 use Rattle.std.proofs.Common.{◌≡◌, ◌++◌, codes, drop}
 use Rattle.pami_linear.specs.Lists.{get}
 use Rattle.pami_model.specs.Rules.{names_of_rows}
-use Rattle.pami_method.specs.Phases.{ray}
 use Rattle.pami_lines.specs.Line.{text}
 use Rattle.pami_lines.specs.Certificate.{named_lines}
 use Rattle.pami_cli.proofs.certificate.push_ray.Given as goal
 
 abbrev pub invariant-loop-i : goal.invariant-loop-i
 invariant-loop-i l =
-    l.initial.out.items ++ text (named_lines (codes "r") 0 (names_of_rows l.rows) (get (ray l.side l.row)))
-    ≡ l.out.items ++ text (named_lines (codes "r") l.i (names_of_rows (drop l.i l.rows)) (get (ray l.side l.row)))
+    l.initial.out.items ++ text (named_lines (codes "r") 0 (names_of_rows l.rows) (get l.y))
+    ≡ l.out.items ++ text (named_lines (codes "r") l.i (names_of_rows (drop l.i l.rows)) (get l.y))

@@ -1,39 +1,21 @@
+use Rattle.std.proofs.Common.{◌≡◌, arith, refl, sym, subst}
 use Rattle.pami_model.specs.Contents.{contents}
-use Rattle.pami_major.proofs.Starts.{lent_form, lent_kept}
-use Rattle.pami_cli.proofs.Started.{refused_model, start_stands, feasible_model, phase_one_model}
+use Rattle.pami_model_form.specs.ModelForm.{model_form}
+use Rattle.pami_cli.specs.Answer.{options_of}
+use Rattle.pami_cli.specs.Solved.{IsTold}
+use Rattle.pami_cli.proofs.Told.{solved_told, told_model}
 use Rattle.pami_cli.proofs.solve.form_answer.Goals as goal
 
-pub returns-in-Err-Named : goal.returns-in-Err-Named
-returns-in-Err-Named c =
-    let f = c.args.form.now in
-    let start = rw c.in-Err-Named.field-0-is at c.in-Err-Named.ensures in
-    let ends = rw c.in-Err-Named.field-0-is at c.refused_start.ensures in
-    refused_model (contents c.args.model.now) c.args.limit c.as_slice.result.now c.as_slice-bounds.result.now c.as_slice-2.result.now
-    (lent_kept f.columns _ f.bounds _ f.costs _ c.as_slice.ensures c.as_slice-bounds.ensures c.as_slice-2.ensures f.kept.form)
-    (lent_form f.columns _ f.bounds _ f.costs _ _ c.as_slice.ensures c.as_slice-bounds.ensures c.as_slice-2.ensures c.requires.form)
-    c.refused_start.result c.in-Err-Named.refused start.follows ends.status ends.text
+pub solve-requires-clause-options : goal.solve-requires-clause-options
+solve-requires-clause-options c = record { some_row = omega arith; batch = omega arith; refactor = omega arith; limit = c.requires.limit }
 
-pub dual_feasible-requires-clause-stands : goal.dual_feasible-requires-clause-stands
-dual_feasible-requires-clause-stands c =
-    let f = c.args.form.now in
-    start_stands (contents c.args.model.now) c.args.limit c.as_slice.result.now c.as_slice-bounds.result.now c.as_slice-2.result.now
-    (lent_kept f.columns _ f.bounds _ f.costs _ c.as_slice.ensures c.as_slice-bounds.ensures c.as_slice-2.ensures f.kept.form)
-    (lent_form f.columns _ f.bounds _ f.costs _ _ c.as_slice.ensures c.as_slice-bounds.ensures c.as_slice-2.ensures c.requires.form)
-    c.in-Ok.state c.in-Ok.ensures.basis c.in-Ok.ensures.solved c.in-Ok.ensures.follows
+pub solve-requires-clause-one_row : goal.solve-requires-clause-one_row
+solve-requires-clause-one_row c = record { batch = refl; refactor = refl }
 
-pub returns-then-not-dual_feasible : goal.returns-then-not-dual_feasible
-returns-then-not-dual_feasible c =
-    let f = c.args.form.now in
-    phase_one_model (contents c.args.model.now) c.args.limit c.as_slice.result.now c.as_slice-bounds.result.now c.as_slice-2.result.now
-    (lent_kept f.columns _ f.bounds _ f.costs _ c.as_slice.ensures c.as_slice-bounds.ensures c.as_slice-2.ensures f.kept.form)
-    (lent_form f.columns _ f.bounds _ f.costs _ _ c.as_slice.ensures c.as_slice-bounds.ensures c.as_slice-2.ensures c.requires.form)
-    c.in-Ok.state c.in-Ok.ensures.basis c.in-Ok.ensures.solved c.in-Ok.ensures.follows c.dual_feasible.result c.dual_feasible.ensures.feasible c.if-not-dual_feasible.true
-    c.in_ok-text.text.items c.in_ok-text.ensures.items
-
-pub walk_answer-requires-clause-feasible : goal.walk_answer-requires-clause-feasible
-walk_answer-requires-clause-feasible c =
-    let f = c.args.form.now in
-    feasible_model (contents c.args.model.now) c.args.limit c.as_slice.result.now c.as_slice-bounds.result.now c.as_slice-2.result.now
-    (lent_kept f.columns _ f.bounds _ f.costs _ c.as_slice.ensures c.as_slice-bounds.ensures c.as_slice-2.ensures f.kept.form)
-    (lent_form f.columns _ f.bounds _ f.costs _ _ c.as_slice.ensures c.as_slice-bounds.ensures c.as_slice-2.ensures c.requires.form)
-    c.in-Ok.state c.in-Ok.ensures.basis c.in-Ok.ensures.solved c.in-Ok.ensures.follows c.dual_feasible.result c.dual_feasible.ensures.feasible c.if-not-dual_feasible.false
+pub returns-in-Ok : goal.returns-in-Ok
+returns-in-Ok c =
+    let m = contents c.args.model.now in
+    told_model m c.args.limit c.in-Ok.answer c.events.result.now c.told_answer.result
+    (subst (IsTold (model_form m) (options_of c.args.limit) c.in-Ok.answer) (sym c.events.ensures)
+    (solved_told m c.args.form.now c.requires.form c.args.limit c.in_ok-teller.teller c.solve.new.teller (λ es. c.solve.new.teller ≡ es) 0 0 c.in-Ok.answer c.in_ok-teller.ensures c.in-Ok.ensures.run))
+    c.told_answer.ensures

@@ -1,5 +1,5 @@
 use Rattle.pami_model.specs.Contents.{contents}
-use Rattle.pami_cli.proofs.Started.{wide_model, fitting_model}
+use Rattle.pami_cli.proofs.Told.{wide_model, fitting_model}
 use Rattle.pami_cli.proofs.solve.model_answer.Goals as goal
 
 pub returns-in-Ok : goal.returns-in-Ok

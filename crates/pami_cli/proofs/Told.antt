@@ -1,0 +1,126 @@
+-- What a model is answered from the run on its form.
+use Rattle.std.proofs.Common.{◌≡◌, ℕ, ◌<◌, inl, inr, List, [], ◌∷◌, ◌++◌, length, Option, None, Some, Result, Ok, Err, refl, sym, ap, ◌∙◌, subst, append_assoc}
+use Rattle.std.specs.List.{flat_map}
+use Rattle.std.specs.Result.{IfOk}
+use Rattle.std.proofs.lemmas.Grind.{flat_map-append}
+use Rattle.pami_frac.specs.declared.fault.OutOfMemory.{OutOfMemory}
+use Rattle.pami_linear.specs.Lists.{get}
+use Rattle.pami_model.specs.Contents.{Contents}
+use Rattle.pami_theory.specs.Form.{variables, limits, IsUncrossed}
+use Rattle.pami_method.specs.declared.words.Options.{Options}
+use Rattle.pami_method.specs.Phases.{Phase, Record, Answer, Optimal, Infeasible, DualInfeasible, Limit, Overflow, IsRun}
+use Rattle.pami_method.proofs.Answers.{run_holds}
+use Rattle.pami_form.specs.declared.form.Form.{Form as ProgramForm}
+use Rattle.pami_form.specs.declared.form.WideBox.{WideBox}
+use Rattle.pami_form.specs.Widths.{first_wide}
+use Rattle.pami_state.specs.Columns.{HasBounds}
+use Rattle.pami_state.proofs.Formed.{has_bounds, variables_are}
+use Rattle.pami_major.specs.Ready.{form_of}
+use Rattle.pami_lines.specs.Line.{text}
+use Rattle.pami_lines.specs.Head.{Counts, head_lines, phase_line}
+use Rattle.pami_lines.specs.Names.{Names}
+use Rattle.pami_lines.proofs.Texts.{text_append}
+use Rattle.pami_lines.proofs.Objectives.{objective_holds}
+use Rattle.pami_text.specs.Record.{phase_lines, answer_lines}
+use Rattle.pami_log.specs.declared.event.Event.{Event}
+use Rattle.pami_log.specs.Events.{event_lines}
+use Rattle.pami_log.proofs.Lines.{walk_is}
+use Rattle.pami_phase.specs.declared.answer.Answer.{Answer as Solved}
+use Rattle.pami_phase.specs.Runs.{phase_events, record_events, IsRunBehind, EndsRun}
+use Rattle.pami_model_form.specs.ModelForm.{model_form}
+use Rattle.pami_model_form.specs.Named.{names_of, counts_of, named_of}
+use Rattle.pami_cli.specs.declared.answer.Answer.{Answer as Answered}
+use Rattle.pami_cli.specs.declared.status.Status.{Status}
+use Rattle.pami_cli.specs.declared.status.Status.TheVariants as statuses
+use Rattle.pami_cli.specs.Text.{begun_text, run_text, wide_text}
+use Rattle.pami_cli.specs.Solved.{IsTold}
+use Rattle.pami_cli.specs.Answer.{options_of, HasStatus, HoldsFor, AnswersRun, AnswersModel}
+
+-- ---- texts
+-- the texts of events are the text of their lines
+text_of_each : (g : Event → List (List (List ℕ))) (es : List Event) → flat_map (λ (e : Event). text (g e)) es ≡ text (flat_map g es)
+text_of_each g [] = refl
+text_of_each g (e ∷ es) = ap (λ z. text (g e) ++ z) (text_of_each g es) ∙ sym (text_append (g e) (flat_map g es))
+
+-- the events of a phase have its lines
+phase_is : (n : Names) (counts : Counts) (o : Options) (k : ℕ) (p : Option Phase) → flat_map (event_lines n counts) (phase_events o k p) ≡ phase_lines n o k p
+phase_is n counts o k None = refl
+phase_is n counts o k (Some p) = ap (λ z. phase_line k ∷ z) (walk_is n counts p.form o p.start p.majors)
+
+record_is : (n : Names) (counts : Counts) (o : Options) (r : Record) → flat_map (event_lines n counts) (record_events o r) ≡ phase_lines n o 1 r.phase_one ++ phase_lines n o 2 r.phase_two
+record_is n counts o r =
+    flat_map-append (event_lines n counts) (phase_events o 1 r.phase_one) (phase_events o 2 r.phase_two)
+    ∙ ap (λ z. z ++ flat_map (event_lines n counts) (phase_events o 2 r.phase_two)) (phase_is n counts o 1 r.phase_one)
+    ∙ ap (λ z. phase_lines n o 1 r.phase_one ++ z) (phase_is n counts o 2 r.phase_two)
+
+-- the head, the lines of the events and those of the answer are the text of the run
+run_text_is : (c : Contents) (o : Options) (r : Record) (answer : Answer) (events : List Event) → record_events o r ≡ events → begun_text c events ++ text (answer_lines (named_of c) answer) ≡ run_text c o r answer
+run_text_is c o r answer events e =
+    let heads : List (List (List ℕ)) = head_lines (counts_of c) in
+    let one : List (List (List ℕ)) = phase_lines (names_of c) o 1 r.phase_one in
+    let two : List (List (List ℕ)) = phase_lines (names_of c) o 2 r.phase_two in
+    let last : List (List (List ℕ)) = answer_lines (named_of c) answer in
+    let each : flat_map (λ (x : Event). text (event_lines (names_of c) (counts_of c) x)) events ≡ text (one ++ two) =
+    ap (flat_map (λ (x : Event). text (event_lines (names_of c) (counts_of c) x))) (sym e)
+    ∙ text_of_each (event_lines (names_of c) (counts_of c)) (record_events o r)
+    ∙ ap text (record_is (names_of c) (counts_of c) o r) in
+    ap (λ (z : List ℕ). (text heads ++ z) ++ text last) each
+    ∙ append_assoc (text heads) (text (one ++ two)) (text last)
+    ∙ ap (λ (z : List ℕ). text heads ++ z) (sym (text_append (one ++ two) last) ∙ ap text (append_assoc one two last))
+    ∙ sym (text_append heads (one ++ (two ++ last)))
+
+-- ---- certificates
+run_answer_holds : (c : Contents) (o : Options) (told : Record) (a : Answer) → ((v : ℕ) → v < variables (model_form c) → IsUncrossed (limits (model_form c) v)) → length (model_form c).bounds ≡ variables (model_form c)
+    → IsRun (model_form c) o told a → HoldsFor c a
+run_answer_holds c o told (Optimal st s) u l h = record { certificate = run_holds (model_form c) o told (Optimal st s) h u; objective = objective_holds (named_of c) (get s.values) }
+run_answer_holds c o told (Infeasible y) u l h = run_holds (model_form c) o told (Infeasible y) h
+run_answer_holds c o told (DualInfeasible st s) u l h = run_holds (model_form c) o told (DualInfeasible st s) h l
+run_answer_holds c o told (Limit st) u l h = tt
+run_answer_holds c o told (Overflow r) u l h = tt
+
+-- ---- a form of the program that is the model's
+module _ (c : Contents) (form : ProgramForm) (is : form_of form ≡ model_form c) where
+  uncrossed : (v : ℕ) → v < variables (model_form c) → IsUncrossed (limits (model_form c) v)
+  uncrossed =
+      subst (λ f. (v : ℕ) → v < variables f → IsUncrossed (limits f v)) is
+      (λ v l. form.kept.form.uncrossed v (subst (λ n. v < n) (variables_are form.columns form.bounds form.costs form.kept.form) l))
+
+  pub model_bounds : HasBounds (model_form c) form.bounds
+  model_bounds = subst (λ f. HasBounds f form.bounds) is (has_bounds form.columns form.bounds form.costs form.kept.form)
+
+  whole : length (model_form c).bounds ≡ variables (model_form c)
+  whole = ap length model_bounds.same ∙ model_bounds.by_variable
+
+  pub told_run : (limit : ℕ) (status : Status) (written : List ℕ) (answer : Solved) (events : List Event) (t : IsTold (model_form c) (options_of limit) answer events) → HasStatus t.given status
+      → written ≡ begun_text c events ++ text (answer_lines (named_of c) t.given) → AnswersRun c limit status written
+  told_run limit status written answer events t k e = record {
+    told = t.run.record_of;
+    answer = t.given;
+    run = t.run.run;
+    has_status = k;
+    holds = run_answer_holds c (options_of limit) t.run.record_of t.given uncrossed whole t.run.run;
+    written_is = e ∙ run_text_is c (options_of limit) t.run.record_of t.given events t.run.whole;
+  }
+
+  -- the answer of a run whose events were told to an empty list
+  pub solved_told : (limit : ℕ) (before told : List Event) (stopped : List Event → Type 0) (n m : ℕ) (answer : Solved) → before ≡ []
+      → EndsRun (form_of form) (options_of limit) [] (λ es. before ≡ es) (λ es. told ≡ es) stopped n m (Ok answer) → IsTold (model_form c) (options_of limit) answer told
+  solved_told limit before told stopped n m answer e (events, a, run, ans, goes, k) =
+      subst (λ f. IsTold f (options_of limit) answer told) is
+      (record { given = a; run = subst (λ es. IsRunBehind (form_of form) (options_of limit) [] es a) (sym (goes [] e)) run; is = ans })
+
+-- an answer is written with the lines of its run
+pub told_model : (c : Contents) (limit : ℕ) (answer : Solved) (events : List Event) (r : Result Answered OutOfMemory) → IsTold (model_form c) (options_of limit) answer events
+    → IfOk r (λ a. (limit : ℕ) → IsTold (model_form c) (options_of limit) answer events → AnswersRun c limit a.status a.text.items) → IfOk r (λ a. AnswersRun c limit a.status a.text.items)
+told_model c limit answer events (Ok a) t h = h limit t
+told_model c limit answer events (Err x) t h = tt
+
+-- ---- widths
+pub wide_model : (c : Contents) (limit : ℕ) (box : WideBox) (r : Result Answered OutOfMemory) → first_wide (model_form c).bounds ≡ Some box → IfOk r (λ a. a.status ≡ statuses.File) → IfOk r (λ a. a.text.items ≡ wide_text c box.variable)
+    → IfOk r (λ a. AnswersModel c limit a.status a.text.items)
+wide_model c limit box (Ok a) first e w = inr (record { box = box; first = first; status_is = e; written_is = w })
+wide_model c limit box (Err x) first e w = tt
+
+pub fitting_model : (c : Contents) (limit : ℕ) (r : Result Answered OutOfMemory) → first_wide (model_form c).bounds ≡ None → IfOk r (λ a. AnswersRun c limit a.status a.text.items) → IfOk r (λ a. AnswersModel c limit a.status a.text.items)
+fitting_model c limit (Ok a) fits h = inl (record { widths = fits; run = h })
+fitting_model c limit (Err x) fits h = tt

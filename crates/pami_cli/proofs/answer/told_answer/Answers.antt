@@ -1,0 +1,15 @@
+use Rattle.std.proofs.Common.{◌++◌, ap, ◌∙◌}
+use Rattle.pami_model.specs.Contents.{contents}
+use Rattle.pami_lines.specs.Line.{text}
+use Rattle.pami_text.specs.Record.{answer_lines}
+use Rattle.pami_model_form.specs.ModelForm.{model_form}
+use Rattle.pami_model_form.specs.Named.{named_of}
+use Rattle.pami_cli.proofs.Told.{told_run}
+use Rattle.pami_cli.proofs.answer.told_answer.Goals as goal
+
+pub returns : goal.returns
+returns c =
+    let m = contents c.args.model.now in
+    λ limit t.
+    told_run m c.args.form.now c.requires.form limit c.status_of.result c.push_answer.new.out.items c.args.answer.now c.args.events.now t (c.status_of.ensures (model_form m) t.given t.is)
+    (c.in_ok-push_answer.ensures t.given t.is ∙ ap (λ z. z ++ text (answer_lines (named_of m) t.given)) c.in_ok-text.ensures)
