@@ -13,8 +13,6 @@ Subject To
   nitrogen: 4000 <= 140 wheat + 120 maize - 40 clover <= 7200
 
 Bounds
-  wheat <= 90
   10 <= maize <= 35
-  clover <= 90
 
 End

@@ -80,7 +80,8 @@ pivot 1 0 r:a L x:x 1/10
 rollback 2 factor div {SMALL} 10
 answer overflow factor div {SMALL} 10
 """
-# A unit more of x costs 1 less, and nothing bounds x or r above: in the boxes r is 1, so x is 1/2.
+# A cost below 0 of a column without an upper bound, so phase 1: x begins at the upper end of its box, 1, which gives the row 2,
+# and its box ends at 1 too. The ratio is 1/2. Behind the pivot the row is at an upper end that the model doesn't have.
 FALLING = GOOD.replace("x c 1", "x c -1")
 FALLING_TEXT = """pami 1
 model 1 1 1
@@ -92,6 +93,28 @@ certificate 1 dual-infeasible
 x x 1/2
 r r 1
 end
+"""
+# A maximum that a row bounds, and no bound.
+BOTH = """max 3 x
+st
+top: x <= 3
+end
+"""
+# In phase 1 x begins at the upper end of its box, 1, and the row's box ends at 0. So the row leaves, and x enters; each unit costs
+# 3. In phase 2 the row is at its own upper bound 3.
+BOTH_TEXT = """pami 1
+model 1 1 1
+phase 1
+major 1 full 0
+pivot 1 0 r:top U x:x 3
+phase 2
+answer optimal
+certificate 1 optimal
+objective 9
+x x 3 0
+r top 3 -3
+end
+basis B U
 """
 # The model of GOOD.
 GOOD_LP = "min x\nst\n r: 2 x >= 4\nend\n"
@@ -200,7 +223,7 @@ FILES = {
     "infeasible.mps": INFEASIBLE,
     "wide.mps": WIDE,
     "falling.mps": FALLING,
-    "good.LP": GOOD_LP,
+    "both.LP": BOTH,
     "good.lp": GOOD_LP,
     "lp.txt": GOOD_LP,
     "mps.lp": GOOD,
@@ -228,7 +251,7 @@ ROWS = [
     ("an LP file by an option", ["solve", "--format", "lp", "lp.txt"], 0, GOOD_TEXT),
     ("an MPS file by an option", ["solve", "mps.lp", "--format=mps"], 0, GOOD_TEXT),
     ("an LP file without the option", ["solve", "lp.txt"], 3, "refused 1 section\n"),
-    ("an LP file by its name in capitals", ["solve", "good.LP"], 0, GOOD_TEXT),
+    ("both phases", ["solve", "both.LP"], 0, BOTH_TEXT),
     ("no words", [], 2, BAD_WORDS),
     ("no command", ["good.mps"], 2, BAD_WORDS),
     ("no file", ["solve"], 2, BAD_WORDS),
@@ -248,11 +271,11 @@ ROWS = [
     ("a folder", ["solve", "."], 4, READ_FAULT),
     ("an infeasible answer", ["solve", "infeasible.mps"], 10, INFEASIBLE_TEXT),
     ("an infeasible answer behind flips", ["solve", "unreached.mps"], 10, UNREACHED_TEXT),
-    ("a cost that falls without end", ["solve", "falling.mps"], 11, FALLING_TEXT),
     ("the limit of pivots", ["solve", "good.mps", "--limit", "0"], 12, LIMIT_TEXT),
     ("the limit in one word", ["solve", "--limit=0", "good.mps"], 12, LIMIT_TEXT),
     ("a number that doesn't fit", ["solve", "wide.mps"], 13, WIDE_TEXT),
     ("a start that doesn't fit", ["solve", "start.mps"], 13, START_TEXT),
+    ("a cost that falls without end", ["solve", "falling.mps"], 11, FALLING_TEXT),
 ]
 
 
