@@ -84,14 +84,15 @@ fn model_of(
 }
 
 /// How a walk ended, its last state, and what it told.
-struct Walked {
+#[derive(Drop)]
+struct Outcome {
     end: WalkEnd,
     state: State,
     teller: ListTeller,
 }
 
 /// The walk from the start of the model's form, with at most nine pivots.
-fn walked(alloc: Global, model: &Model) -> Result<Walked, Fail> {
+fn walked(alloc: Global, model: &Model) -> Result<Outcome, Fail> {
     let form = form_of(alloc, model).ok().ok_or("a form")?;
     let bounds = form.bounds.as_slice();
     let mut state = match start(
@@ -123,13 +124,13 @@ fn walked(alloc: Global, model: &Model) -> Result<Walked, Fail> {
         &mut teller,
         &mut steps,
     ) {
-        Ok(end) => Ok(Walked { end, state, teller }),
+        Ok(end) => Ok(Outcome { end, state, teller }),
         Err(_) => Err(Fail::from("a walk")),
     }
 }
 
 /// The lines of a walk's events, and a line for its end.
-fn text_of(alloc: Global, model: &Model, walk: &Walked) -> Result<Vec<u8>, OutOfMemory> {
+fn text_of(alloc: Global, model: &Model, walk: &Outcome) -> Result<Vec<u8>, OutOfMemory> {
     let mut text = Vec::new(alloc);
     for event in walk.teller.events() {
         text.extend_from_slice(print_event(alloc, model, event)?.as_slice())?;
