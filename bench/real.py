@@ -130,15 +130,38 @@ def said_by(program, path):
     return answer[0], " ".join(answer), None, sizes
 
 
+def constant_in(path):
+    """The constant that a file states on the right-hand side of its objective, which the judge leaves out."""
+    goal, section, constant = None, "", Fraction(0)
+    for line in read(path).decode(errors="replace").splitlines():
+        words = line.split()
+        if not words or line.startswith("*"):
+            continue
+        if not line[0].isspace():
+            section = words[0]
+        elif section == "ROWS" and words[0] == "N" and goal is None:
+            goal = words[1]
+        elif section == "RHS":
+            pairs = words[len(words) % 2:]
+            constant -= sum(Fraction(value) for row, value in zip(pairs[::2], pairs[1::2]) if row == goal)
+    return constant
+
+
 def judged(path, out):
-    """What esolver says of a model, as (end, value); None where it says nothing."""
-    done = finish(["esolver", "-O", out, path], JUDGE_SECONDS)
+    """What esolver says of a model, as (end, value), with the constant; None where it says nothing. A name that ends in
+    .lp is one of LP, any other one of MPS."""
+    is_lp = path.endswith(".lp")
+    # A file that can't be read isn't to be judged by what was said of the one before.
+    if os.path.exists(out):
+        os.remove(out)
+    done = finish(["esolver", *["-L"] * is_lp, "-O", out, path], JUDGE_SECONDS)
     if done is None or done[0] != 0 or not os.path.exists(out):
         return None
     text = read(out).decode(errors="replace")
     end = re.search(r"^status =? ?(\w+)", text, re.MULTILINE)
     value = line_of(text, "Value")
-    return (end.group(1) if end else "nothing"), Fraction(value[1]) if value else None
+    constant = 0 if is_lp or not value else constant_in(path)
+    return (end.group(1) if end else "nothing"), Fraction(value[1]) + constant if value else None
 
 
 def compared(kind, value, judge):
