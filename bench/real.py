@@ -203,7 +203,7 @@ def main(folder, program):
         seen += 1
     print("\n%d models" % seen)
     for title, many in counts.most_common():
-        print("%6d %s" % (many, "needs phase one" if title == "needs" else title))
+        print("%6d %s" % (many, title))
     for title, many in judges.most_common():
         if title:
             print("%6d times: %s" % (many, title))
