@@ -24,6 +24,10 @@ pub mod Wholes
 pub mod Bare
 pub mod Joins
 pub mod Answering
+pub mod Chains
+pub mod Names
+pub mod Parts
+pub mod Columns
 pub mod Gathered
 pub mod Prices
 pub mod Still

@@ -1,71 +1,24 @@
 -- A file gives each column the bounds that the bounds of its name set, one after another.
-use Rattle.std.proofs.Common.{◌≡◌, ◌+◌, ◌<◌, ◌≤◌, ◌||◌, ℕ, suc, Bool, true, false, true≢false, cond, nat_eq, List, [], ◌∷◌, ◌++◌, length, filter, fold, Option, None, Some, Ok, eq-eqb, refl, sym, ap, subst, ◌∙◌, arith}
+use Rattle.std.proofs.Common.{◌≡◌, ◌<◌, ◌≤◌, ◌||◌, inl, inr, ℕ, Bool, true, false, cond, nat_eq, List, [], ◌∷◌, ◌++◌, length, filter, fold, Option, None, Some, Ok, eq-eqb, refl, sym, ap, subst, ◌∙◌, arith}
 use Rattle.std.specs.List.{list_any}
-use Rattle.std.specs.Option.{option_map}
 use Rattle.std.specs.Str.{bytes_eq}
-use Rattle.std.proofs.lemmas.List.{length-append}
 use Rattle.std.proofs.lemmas.Bool.{ne_eqb}
 use Rattle.pami_frac.specs.Answers.{then as chain}
 use Rattle.pami_frac.specs.declared.list.Bounds.{Bounds}
 use Rattle.pami_model.specs.declared.list.Column.{Column}
-use Rattle.pami_model.specs.Draft.{Draft, changed, column_at, column_with_bounds, new_column, place_of}
+use Rattle.pami_model.specs.Draft.{Draft, changed, column_at, column_with_bounds, place_of}
 use Rattle.pami_model.specs.Rules.{names_of_columns}
 use Rattle.pami_lp_text.specs.declared.kind.Relation.{Relation}
 use Rattle.pami_lp_text.specs.declared.kind.Relation.TheVariants as relations
 use Rattle.pami_lp.specs.Gather.{Span, bound_effect, bound_name, column_named, sides_by, span_of, span_set, states}
 use Rattle.pami_lp.specs.Grammar.{Bound, Set, From, Between, Freed, way}
 use Rattle.pami_lp.specs.Meaning.{left_side, right_side, take_bound, take_bound_of, take_bounds}
-use Rattle.pami_lp.specs.Rules.{Bounded, bounded, bounds_set, lowered_set, set_bound, set_free, stand, stand_at, with_bounds, with_lowered}
+use Rattle.pami_lp.specs.Rules.{Bounded, bounded, bounds_set, lowered_set, set_bound, set_free, stand, with_bounds, with_lowered}
 use Rattle.pami_lp.specs.Values.{turned, unbounded}
-use Rattle.pami_lp.proofs.Gathered.{changed-names, judged_on, on}
-use Rattle.pami_lp.proofs.Prices.{column_here, itself, length_names, look_changed, look_push, names_push, none_some, place_push, place_step, same, some_same, stood}
+use Rattle.pami_lp.proofs.Chains.{on}
+use Rattle.pami_lp.proofs.Columns.{IsPlaced, changed-names, column_here, length_names, look_changed, stood}
+use Rattle.pami_lp.proofs.Names.{place_apart, place_within, same}
 use Rattle.pami_lp.proofs.Stepped.{ok_same}
-
--- ---- places of names
-
--- a name's place is within the names
-place_within : (n : List ℕ) (xs : List (List ℕ)) (i : ℕ) → place_of n xs ≡ Some i → i < length xs
-place_within n [] i h = none_some h
-place_within n (x ∷ xs) i h = by (bytes_eq n x) (sym (place_step n x xs) ∙ h) (λ j e. place_within n xs j e)
-  where
-    move : (o : Option ℕ) → place_of n xs ≡ o → option_map suc o ≡ Some i → ((j : ℕ) → place_of n xs ≡ Some j → j < length xs) → i < suc (length xs)
-    move None e g ih = none_some g
-    move (Some j) e g ih = let k : suc j ≡ i = some_same g in let l : j < length xs = ih j e in omega (arith, k, l)
-
-    by : (b : Bool) → cond b (Some 0) (option_map suc (place_of n xs)) ≡ Some i → ((j : ℕ) → place_of n xs ≡ Some j → j < length xs) → i < suc (length xs)
-    by true g ih = let k : 0 ≡ i = some_same g in omega (arith, k)
-    by false g ih = move (place_of n xs) refl g ih
-
--- one place has one name
-place_one : (m n : List ℕ) (xs : List (List ℕ)) (i : ℕ) → place_of m xs ≡ Some i → place_of n xs ≡ Some i → m ≡ n
-place_one m n [] i h k = none_some h
-place_one m n (x ∷ xs) i h k = by (bytes_eq m x) (bytes_eq n x) refl refl (sym (place_step m x xs) ∙ h) (sym (place_step n x xs) ∙ k) (λ j e f. place_one m n xs j e f)
-  where
-    zero_suc : {A : Type 0} {j : ℕ} → 0 ≡ suc j → A
-    zero_suc e = absurd (omega (arith, e))
-
-    move : (o p : Option ℕ) → place_of m xs ≡ o → place_of n xs ≡ p → option_map suc o ≡ Some i → option_map suc p ≡ Some i → ((j : ℕ) → place_of m xs ≡ Some j → place_of n xs ≡ Some j → m ≡ n) → m ≡ n
-    move None p e f g k ih = none_some g
-    move (Some a) None e f g k ih = none_some k
-    move (Some a) (Some b) e f g k ih =
-        let u : suc a ≡ i = some_same g in let v : suc b ≡ i = some_same k in let w : b ≡ a = omega (arith, u, v) in
-        ih a e (f ∙ ap (λ (c : ℕ). Some c) w)
-
-    apart : {A : Type 0} (o : Option ℕ) → Some 0 ≡ Some i → option_map suc o ≡ Some i → A
-    apart None g k = none_some k
-    apart (Some a) g k = zero_suc (some_same g ∙ sym (some_same k))
-
-    by : (a b : Bool) → bytes_eq m x ≡ a → bytes_eq n x ≡ b → cond a (Some 0) (option_map suc (place_of m xs)) ≡ Some i → cond b (Some 0) (option_map suc (place_of n xs)) ≡ Some i
-        → ((j : ℕ) → place_of m xs ≡ Some j → place_of n xs ≡ Some j → m ≡ n) → m ≡ n
-    by true true e f g k ih = same m x e ∙ sym (same n x f)
-    by true false e f g k ih = apart (place_of n xs) g k
-    by false true e f g k ih = apart (place_of m xs) k g
-    by false false e f g k ih = move (place_of m xs) (place_of n xs) refl refl g k ih
-
--- a name behind others leaves the places of the others
-place_kept : (n m : List ℕ) (xs : List (List ℕ)) → bytes_eq m n ≡ false → place_of m (xs ++ n ∷ []) ≡ place_of m xs
-place_kept n m [] e = place_step m n [] ∙ ap (λ (b : Bool). cond b (Some 0) (option_map suc (place_of m []))) e
-place_kept n m (x ∷ xs) e = place_step m x (xs ++ n ∷ []) ∙ ap (λ (o : Option ℕ). cond (bytes_eq m x) (Some 0) (option_map suc o)) (place_kept n m xs e) ∙ sym (place_step m x xs)
 
 -- ---- which columns have a lower bound of their own
 
@@ -128,13 +81,21 @@ record Moves (s t : Bounded) (n : List ℕ) (f : Span → Span) : Type 0 where
 moves_both : (s t u : Bounded) (n : List ℕ) (f g : Span → Span) → Moves s t n f → Moves t u n g → Moves s u n (λ x. g (f x))
 moves_both s t u n f g a b = record { low = b.low; spans = λ m x h. by m x (bytes_eq m n) refl (b.spans m (cond (bytes_eq m n) (f x) x) (a.spans m x h)) }
   where
-    by : (m : List ℕ) (x : Span) (c : Bool) → bytes_eq m n ≡ c → SpanIs u m (cond (bytes_eq m n) (g (cond (bytes_eq m n) (f x) x)) (cond (bytes_eq m n) (f x) x)) → SpanIs u m (cond (bytes_eq m n) (g (f x)) x)
-    by m x true e h = subst (λ (c : Bool). SpanIs u m (cond c (g (f x)) x)) (sym e) (subst (λ (c : Bool). SpanIs u m (cond c (g (cond c (f x) x)) (cond c (f x) x))) e h)
-    by m x false e h = subst (λ (c : Bool). SpanIs u m (cond c (g (f x)) x)) (sym e) (subst (λ (c : Bool). SpanIs u m (cond c (g (cond c (f x) x)) (cond c (f x) x))) e h)
+    by : (m : List ℕ) (x : Span) (c : Bool) → bytes_eq m n ≡ c
+        → SpanIs u m (cond (bytes_eq m n) (g (cond (bytes_eq m n) (f x) x)) (cond (bytes_eq m n) (f x) x)) → SpanIs u m (cond (bytes_eq m n) (g (f x)) x)
+    by m x true e h =
+        subst (λ (c : Bool). SpanIs u m (cond c (g (f x)) x)) (sym e) (subst (λ (c : Bool). SpanIs u m (cond c (g (cond c (f x) x)) (cond c (f x) x))) e h)
+    by m x false e h =
+        subst (λ (c : Bool). SpanIs u m (cond c (g (f x)) x)) (sym e) (subst (λ (c : Bool). SpanIs u m (cond c (g (cond c (f x) x)) (cond c (f x) x))) e h)
 
 -- a name stands
 stand_moves : (s : Bounded) (n : List ℕ) (p : Draft × ℕ) → Low s → stand s.draft n ≡ Ok p → Moves s (bounded p.0 s.lowered) n (λ x. x)
-stand_moves s n p low h = by (place_of n (names_of_columns s.draft.columns)) refl h
+stand_moves s n p low h =
+    let o = stood s.draft n p h in
+    record {
+      low = record { at = λ k le. low.at k (omega (arith, le, o.longer)) };
+      spans = λ m x k. same_span m x (record { bounds = ap (λ (c : Column). c.bounds) (o.looks m) ∙ k.bounds; stated = kept m (o.places m) ∙ k.stated });
+    }
   where
     same_span : (m : List ℕ) (x : Span) → SpanIs (bounded p.0 s.lowered) m x → SpanIs (bounded p.0 s.lowered) m (cond (bytes_eq m n) x x)
     same_span m x k = go (bytes_eq m n)
@@ -143,31 +104,11 @@ stand_moves s n p low h = by (place_of n (names_of_columns s.draft.columns)) ref
         go true = k
         go false = k
 
-    pushed : Draft × ℕ
-    pushed = (record s.draft { columns = s.draft.columns ++ new_column n ∷ [] }, length s.draft.columns)
-
-    new_stated : place_of n (names_of_columns s.draft.columns) ≡ None → (m : List ℕ) (b : Bool) → bytes_eq m n ≡ b
-        → among s.lowered (place_of m (names_of_columns (s.draft.columns ++ new_column n ∷ []))) ≡ among s.lowered (place_of m (names_of_columns s.draft.columns))
-    new_stated e m true f =
-        ap (λ (ns : List (List ℕ)). among s.lowered (place_of m ns)) (names_push s.draft.columns n) ∙ ap (λ (k : List ℕ). among s.lowered (place_of k (names_of_columns s.draft.columns ++ n ∷ []))) (same m n f)
-        ∙ ap (λ (o : Option ℕ). among s.lowered o) (place_push n (names_of_columns s.draft.columns) e) ∙ ap (λ (k : ℕ). list_any (nat_eq k) s.lowered) (length_names s.draft.columns)
-        ∙ low.at (length s.draft.columns) (omega arith) ∙ ap (λ (o : Option ℕ). among s.lowered o) (sym e) ∙ ap (λ (k : List ℕ). among s.lowered (place_of k (names_of_columns s.draft.columns))) (sym (same m n f))
-    new_stated e m false f = ap (λ (ns : List (List ℕ)). among s.lowered (place_of m ns)) (names_push s.draft.columns n) ∙ ap (λ (o : Option ℕ). among s.lowered o) (place_kept n m (names_of_columns s.draft.columns) f)
-
-    longer : length (s.draft.columns ++ new_column n ∷ []) ≡ length s.draft.columns + 1
-    longer = length-append s.draft.columns (new_column n ∷ [])
-
-    by : (o : Option ℕ) → place_of n (names_of_columns s.draft.columns) ≡ o → stand_at o s.draft n ≡ Ok p → Moves s (bounded p.0 s.lowered) n (λ x. x)
-    by (Some j) e g =
-        let d : s.draft ≡ p.0 = ap (λ (q : Draft × ℕ). q.0) (ok_same g) in
-        record { low = subst (λ (x : Draft). Low (bounded x s.lowered)) d (record { at = low.at }); spans = λ m x k. same_span m x (subst (λ (y : Draft). SpanIs (bounded y s.lowered) m x) d (record { bounds = k.bounds; stated = k.stated })) }
-    by None e g =
-        let d : record s.draft { columns = s.draft.columns ++ new_column n ∷ [] } ≡ p.0 = ap (λ (q : Draft × ℕ). q.0) (judged_on _ (record s.draft { columns = s.draft.columns ++ new_column n ∷ [] }, length s.draft.columns) p g) in
-        record {
-          low = subst (λ (x : Draft). Low (bounded x s.lowered)) d (record { at = λ k le. low.at k (omega (arith, le, longer)) });
-          spans = λ m x k. same_span m x (subst (λ (y : Draft). SpanIs (bounded y s.lowered) m x) d
-              (record { bounds = ap (λ (c : Column). c.bounds) (look_push s.draft.columns n m) ∙ k.bounds; stated = new_stated e m (bytes_eq m n) refl ∙ k.stated }));
-        }
+    -- a name behind the others has no lower bound of its own
+    kept : (m : List ℕ) → IsPlaced s.draft.columns p.0.columns m → stated (bounded p.0 s.lowered) m ≡ stated s m
+    kept m (inl e) = ap (λ (o : Option ℕ). among s.lowered o) e
+    kept m (inr e) =
+        ap (λ (o : Option ℕ). among s.lowered o) e.1 ∙ low.at (length s.draft.columns) (omega arith) ∙ ap (λ (o : Option ℕ). among s.lowered o) (sym e.0)
 
 -- ---- a side is set
 
@@ -182,7 +123,9 @@ lowers relations.AtLeast j old was = record { here = λ e. lowered_here j old; o
 lowers relations.Equal j old was = record { here = λ e. lowered_here j old; other = λ k e. lowered_other j k old e }
 
 module _ (s : Bounded) (n : List ℕ) (j : ℕ) (place : place_of n (names_of_columns s.draft.columns) ≡ Some j) (b : Bounds) (new : List ℕ) (f : Span → Span)
-    (is_bounds : (x : Span) → SpanIs s n x → b ≡ (f x).bounds) (low : Low s) (changes : (x : Span) → SpanIs s n x → Lowers s.lowered new j x.stated (f x).stated) (others : (k : ℕ) → nat_eq k j ≡ false → list_any (nat_eq k) new ≡ list_any (nat_eq k) s.lowered) where
+    (is_bounds : (x : Span) → SpanIs s n x → b ≡ (f x).bounds) (low : Low s)
+    (changes : (x : Span) → SpanIs s n x → Lowers s.lowered new j x.stated (f x).stated)
+    (others : (k : ℕ) → nat_eq k j ≡ false → list_any (nat_eq k) new ≡ list_any (nat_eq k) s.lowered) where
   abbrev after : Bounded
   after = bounded (with_bounds j b s.draft) new
 
@@ -196,7 +139,9 @@ module _ (s : Bounded) (n : List ℕ) (j : ℕ) (place : place_of n (names_of_co
   still_low = record { at = λ k le. others k (apart k le) ∙ low.at k (omega (arith, le, counted)) }
     where
       within : j < length s.draft.columns
-      within = let w : j < length (names_of_columns s.draft.columns) = place_within n (names_of_columns s.draft.columns) j place in omega (arith, w, length_names s.draft.columns)
+      within =
+          let w : j < length (names_of_columns s.draft.columns) =
+          place_within n (names_of_columns s.draft.columns) j place in omega (arith, w, length_names s.draft.columns)
 
       apart : (k : ℕ) → length (changed j (column_with_bounds b) s.draft.columns) ≤ k → nat_eq k j ≡ false
       apart k le = ne_eqb k j (λ e. absurd (omega (arith, le, counted, within, e)))
@@ -204,12 +149,16 @@ module _ (s : Bounded) (n : List ℕ) (j : ℕ) (place : place_of n (names_of_co
   set_moves : Moves s (bounded (with_bounds j b s.draft) new) n f
   set_moves = record { low = still_low; spans = λ m x h. by m x (bytes_eq m n) refl h }
     where
-      at : (m : List ℕ) (c : Bool) → bytes_eq m n ≡ c → (column_named (changed j (column_with_bounds b) s.draft.columns) m).bounds ≡ (cond c (column_with_bounds b (column_named s.draft.columns m)) (column_named s.draft.columns m)).bounds
-      at m c e = ap (λ (x : Column). x.bounds) (look_changed s.draft.columns n j (column_with_bounds b) (λ c. refl) place m) ∙ ap (λ (c : Bool). (cond c (column_with_bounds b (column_named s.draft.columns m)) (column_named s.draft.columns m)).bounds) e
+      at : (m : List ℕ) (c : Bool) → bytes_eq m n ≡ c
+          → (column_named (changed j (column_with_bounds b) s.draft.columns) m).bounds
+          ≡ (cond c (column_with_bounds b (column_named s.draft.columns m)) (column_named s.draft.columns m)).bounds
+      at m c e =
+          ap (λ (x : Column). x.bounds) (look_changed s.draft.columns n j (column_with_bounds b) (λ c. refl) place m)
+          ∙ ap (λ (c : Bool). (cond c (column_with_bounds b (column_named s.draft.columns m)) (column_named s.draft.columns m)).bounds) e
 
       away : (m : List ℕ) → bytes_eq m n ≡ false → (o : Option ℕ) → place_of m (names_of_columns s.draft.columns) ≡ o → among new o ≡ among s.lowered o
       away m e None g = refl
-      away m e (Some k) g = others k (ne_eqb k j (λ i. true≢false (sym (itself n) ∙ ap (λ (z : List ℕ). bytes_eq z n) (sym (place_one m n (names_of_columns s.draft.columns) j (g ∙ ap (λ (z : ℕ). Some z) i) place)) ∙ e)))
+      away m e (Some k) g = others k (place_apart m n (names_of_columns s.draft.columns) j k e place g)
 
       by : (m : List ℕ) (x : Span) (c : Bool) → bytes_eq m n ≡ c → SpanIs s m x → SpanIs (bounded (with_bounds j b s.draft) new) m (cond (bytes_eq m n) (f x) x)
       by m x true e h =
@@ -218,7 +167,8 @@ module _ (s : Bounded) (n : List ℕ) (j : ℕ) (place : place_of n (names_of_co
           (record {
             bounds = at m true e ∙ is_bounds x here;
             stated =
-                ap (λ (ns : List (List ℕ)). among new (place_of m ns)) names ∙ ap (λ (z : List ℕ). among new (place_of z (names_of_columns s.draft.columns))) (same m n e) ∙ ap (λ (o : Option ℕ). among new o) place
+                ap (λ (ns : List (List ℕ)). among new (place_of m ns)) names
+                ∙ ap (λ (z : List ℕ). among new (place_of z (names_of_columns s.draft.columns))) (same m n e) ∙ ap (λ (o : Option ℕ). among new o) place
                 ∙ (changes x here).here (ap (λ (o : Option ℕ). among s.lowered o) (sym place) ∙ here.stated);
           })
       by m x false e h =
@@ -230,23 +180,28 @@ module _ (s : Bounded) (n : List ℕ) (j : ℕ) (place : place_of n (names_of_co
 
 -- ---- bounds, one after another
 
-set_by : (r : Relation) (j : ℕ) (sides : Bounds) (s : Bounded) (n : List ℕ) → Low s → place_of n (names_of_columns s.draft.columns) ≡ Some j → Moves s (set_bound r j sides s) n (span_set r sides)
+set_by : (r : Relation) (j : ℕ) (sides : Bounds) (s : Bounded) (n : List ℕ) → Low s → place_of n (names_of_columns s.draft.columns) ≡ Some j
+    → Moves s (set_bound r j sides s) n (span_set r sides)
 set_by r j sides s n low place =
-    set_moves s n j place (bounds_set r (list_any (nat_eq j) s.lowered) (column_at s.draft.columns j).bounds sides) (lowered_set r j s.lowered) (span_set r sides)
+    set_moves s n j place (bounds_set r (list_any (nat_eq j) s.lowered) (column_at s.draft.columns j).bounds sides) (lowered_set r j s.lowered)
+    (span_set r sides)
     (λ x h. ap (λ (w : Bool). bounds_set r w (column_at s.draft.columns j).bounds sides) (ap (λ (o : Option ℕ). among s.lowered o) (sym place) ∙ h.stated)
     ∙ ap (λ (b : Bounds). bounds_set r x.stated b sides) (ap (λ (c : Column). c.bounds) (column_here s.draft.columns n j place) ∙ h.bounds))
     low (λ x h. lowers r j s.lowered x.stated) (λ k e. (lowers r j s.lowered false).other k e)
 
-free_by : (j : ℕ) (s : Bounded) (n : List ℕ) → Low s → place_of n (names_of_columns s.draft.columns) ≡ Some j → Moves s (set_free j s) n (λ x. record { bounds = unbounded; stated = true })
+free_by : (j : ℕ) (s : Bounded) (n : List ℕ) → Low s → place_of n (names_of_columns s.draft.columns) ≡ Some j
+    → Moves s (set_free j s) n (λ x. record { bounds = unbounded; stated = true })
 free_by j s n low place =
     set_moves s n j place unbounded (with_lowered j s.lowered) (λ x. record { bounds = unbounded; stated = true }) (λ x h. refl) low
     (λ x h. record { here = λ e. lowered_here j s.lowered; other = λ k e. lowered_other j k s.lowered e }) (λ k e. lowered_other j k s.lowered e)
 
-named_set : (s : Bounded) (n : List ℕ) (p : Draft × ℕ) (r : Relation) (sides more : Bounds) → Low s → stand s.draft n ≡ Ok p → sides ≡ more → Moves s (set_bound r p.1 sides (bounded p.0 s.lowered)) n (span_set r more)
+named_set : (s : Bounded) (n : List ℕ) (p : Draft × ℕ) (r : Relation) (sides more : Bounds) → Low s → stand s.draft n ≡ Ok p → sides ≡ more
+    → Moves s (set_bound r p.1 sides (bounded p.0 s.lowered)) n (span_set r more)
 named_set s n p r sides more low h e =
     let a = stand_moves s n p low h in
     subst (λ (b : Bounds). Moves s (set_bound r p.1 sides (bounded p.0 s.lowered)) n (span_set r b)) e
-    (moves_both s (bounded p.0 s.lowered) (set_bound r p.1 sides (bounded p.0 s.lowered)) n (λ x. x) (span_set r sides) a (set_by r p.1 sides (bounded p.0 s.lowered) n a.low (stood s.draft n p h).place))
+    (moves_both s (bounded p.0 s.lowered) (set_bound r p.1 sides (bounded p.0 s.lowered)) n (λ x. x) (span_set r sides) a
+    (set_by r p.1 sides (bounded p.0 s.lowered) n a.low (stood s.draft n p h).place))
 
 moves_to : (s t u : Bounded) (n : List ℕ) (f : Span → Span) → t ≡ u → Moves s t n f → Moves s u n f
 moves_to s t u n f e m = subst (λ (x : Bounded). Moves s x n f) e m
@@ -255,16 +210,22 @@ bound_moves : (b : Bound) (s t : Bounded) → Low s → take_bound b s ≡ Ok t 
 bound_moves (Set name r v) s t low h =
     let a = on (stand s.draft name) (λ p. chain (right_side r v unbounded) (λ sides. Ok (set_bound r p.1 sides (bounded p.0 s.lowered)))) t h in
     let b = on (right_side r v unbounded) (λ sides. Ok (set_bound r a.value.1 sides (bounded a.value.0 s.lowered))) t a.then in
-    moves_to s (set_bound r a.value.1 b.value (bounded a.value.0 s.lowered)) t name (bound_effect (Set name r v)) (ok_same b.then) (named_set s name a.value r b.value (sides_by (right_side r v unbounded)) low a.is (sym (ap sides_by b.is)))
+    moves_to s (set_bound r a.value.1 b.value (bounded a.value.0 s.lowered)) t name (bound_effect (Set name r v)) (ok_same b.then)
+    (named_set s name a.value r b.value (sides_by (right_side r v unbounded)) low a.is (sym (ap sides_by b.is)))
 bound_moves (From v r name) s t low h =
     let a = on (left_side v r unbounded) (λ sides. chain (take_bound_of name (turned r) sides s) (λ p. Ok p.0)) t h in
     let b = on (take_bound_of name (turned r) a.value s) (λ p. Ok p.0) t a.then in
     let c = on (stand s.draft name) (λ p. Ok (set_bound (turned r) p.1 a.value (bounded p.0 s.lowered), p.1)) b.value b.is in
-    moves_to s (set_bound (turned r) c.value.1 a.value (bounded c.value.0 s.lowered)) t name (bound_effect (From v r name)) (ap (λ (q : Bounded × ℕ). q.0) (ok_same c.then) ∙ ok_same b.then)
+    moves_to s (set_bound (turned r) c.value.1 a.value (bounded c.value.0 s.lowered)) t name (bound_effect (From v r name))
+    (ap (λ (q : Bounded × ℕ). q.0) (ok_same c.then) ∙ ok_same b.then)
     (named_set s name c.value (turned r) a.value (sides_by (left_side v r unbounded)) low c.is (sym (ap sides_by a.is)))
 bound_moves (Between v w name u) s t low h =
-    let a = on (left_side v (way w) unbounded) (λ sides. chain (take_bound_of name (turned (way w)) sides s) (λ p. chain (right_side (way w) u unbounded) (λ sides. Ok (set_bound (way w) p.1 sides p.0)))) t h in
-    let b = on (take_bound_of name (turned (way w)) a.value s) (λ p. chain (right_side (way w) u unbounded) (λ sides. Ok (set_bound (way w) p.1 sides p.0))) t a.then in
+    let a =
+    on (left_side v (way w) unbounded)
+    (λ sides. chain (take_bound_of name (turned (way w)) sides s)
+    (λ p. chain (right_side (way w) u unbounded) (λ sides. Ok (set_bound (way w) p.1 sides p.0)))) t h in
+    let b =
+    on (take_bound_of name (turned (way w)) a.value s) (λ p. chain (right_side (way w) u unbounded) (λ sides. Ok (set_bound (way w) p.1 sides p.0))) t a.then in
     let c = on (stand s.draft name) (λ p. Ok (set_bound (turned (way w)) p.1 a.value (bounded p.0 s.lowered), p.1)) b.value b.is in
     let d = on (right_side (way w) u unbounded) (λ sides. Ok (set_bound (way w) b.value.1 sides b.value.0)) t b.then in
     let mid : Bounded = set_bound (turned (way w)) c.value.1 a.value (bounded c.value.0 s.lowered) in
@@ -272,18 +233,24 @@ bound_moves (Between v w name u) s t low h =
     let k : c.value.1 ≡ b.value.1 = ap (λ (q : Bounded × ℕ). q.1) (ok_same c.then) in
     let first = named_set s name c.value (turned (way w)) a.value (sides_by (left_side v (way w) unbounded)) low c.is (sym (ap sides_by a.is)) in
     let place : place_of name (names_of_columns (set_bound (turned (way w)) c.value.1 a.value (bounded c.value.0 s.lowered)).draft.columns) ≡ Some c.value.1 =
-    ap (λ (ns : List (List ℕ)). place_of name ns) (changed-names c.value.0.columns c.value.1 (column_with_bounds _) (λ c. refl)) ∙ (stood s.draft name c.value c.is).place in
+    ap (λ (ns : List (List ℕ)). place_of name ns) (changed-names c.value.0.columns c.value.1 (column_with_bounds _) (λ c. refl))
+    ∙ (stood s.draft name c.value c.is).place in
     let second = set_by (way w) c.value.1 d.value (set_bound (turned (way w)) c.value.1 a.value (bounded c.value.0 s.lowered)) name first.low place in
-    moves_to s (set_bound (way w) c.value.1 d.value (set_bound (turned (way w)) c.value.1 a.value (bounded c.value.0 s.lowered))) t name (bound_effect (Between v w name u))
+    moves_to s (set_bound (way w) c.value.1 d.value (set_bound (turned (way w)) c.value.1 a.value (bounded c.value.0 s.lowered))) t name
+    (bound_effect (Between v w name u))
     (ap (λ (x : Bounded). set_bound (way w) c.value.1 d.value x) e ∙ ap (λ (i : ℕ). set_bound (way w) i d.value b.value.0) k ∙ ok_same d.then)
-    (subst (λ (sides : Bounds). Moves s (set_bound (way w) c.value.1 d.value (set_bound (turned (way w)) c.value.1 a.value (bounded c.value.0 s.lowered))) name (λ x. span_set (way w) sides (span_set (turned (way w)) (sides_by (left_side v (way w) unbounded)) x))) (sym (ap sides_by d.is))
-    (moves_both s (set_bound (turned (way w)) c.value.1 a.value (bounded c.value.0 s.lowered)) (set_bound (way w) c.value.1 d.value (set_bound (turned (way w)) c.value.1 a.value (bounded c.value.0 s.lowered))) name
+    (subst (λ (sides : Bounds). Moves s
+    (set_bound (way w) c.value.1 d.value (set_bound (turned (way w)) c.value.1 a.value (bounded c.value.0 s.lowered))) name
+    (λ x. span_set (way w) sides (span_set (turned (way w)) (sides_by (left_side v (way w) unbounded)) x))) (sym (ap sides_by d.is))
+    (moves_both s (set_bound (turned (way w)) c.value.1 a.value (bounded c.value.0 s.lowered))
+    (set_bound (way w) c.value.1 d.value (set_bound (turned (way w)) c.value.1 a.value (bounded c.value.0 s.lowered))) name
     (span_set (turned (way w)) (sides_by (left_side v (way w) unbounded))) (span_set (way w) d.value) first second))
 bound_moves (Freed name) s t low h =
     let a = on (stand s.draft name) (λ p. Ok (set_free p.1 (bounded p.0 s.lowered))) t h in
     let b = stand_moves s name a.value low a.is in
     moves_to s (set_free a.value.1 (bounded a.value.0 s.lowered)) t name (bound_effect (Freed name)) (ok_same a.then)
-    (moves_both s (bounded a.value.0 s.lowered) (set_free a.value.1 (bounded a.value.0 s.lowered)) name (λ x. x) (λ x. record { bounds = unbounded; stated = true }) b (free_by a.value.1 (bounded a.value.0 s.lowered) name b.low (stood s.draft name a.value a.is).place))
+    (moves_both s (bounded a.value.0 s.lowered) (set_free a.value.1 (bounded a.value.0 s.lowered)) name (λ x. x)
+    (λ x. record { bounds = unbounded; stated = true }) b (free_by a.value.1 (bounded a.value.0 s.lowered) name b.low (stood s.draft name a.value a.is).place))
 
 -- the span of a name behind bounds
 pub bounds_move : (bs : List Bound) (s t : Bounded) → Low s → take_bounds bs s ≡ Ok t → (m : List ℕ) (x : Span) → SpanIs s m x → SpanIs t m (span_of m x bs)
@@ -293,6 +260,8 @@ bounds_move (b ∷ bs) s t low h m x k =
     let v = bound_moves b s a.value low a.is in
     by (bytes_eq m (bound_name b)) (bounds_move bs a.value t v.low a.then m (cond (bytes_eq m (bound_name b)) (bound_effect b x) x) (v.spans m x k))
   where
-    by : (c : Bool) → SpanIs t m (span_of m (cond c (bound_effect b x) x) bs) → SpanIs t m (fold (λ (y : Span) (z : Bound). bound_effect z y) x (cond c (b ∷ filter (λ (z : Bound). bytes_eq m (bound_name z)) bs) (filter (λ (z : Bound). bytes_eq m (bound_name z)) bs)))
+    by : (c : Bool) → SpanIs t m (span_of m (cond c (bound_effect b x) x) bs)
+        → SpanIs t m (fold (λ (y : Span) (z : Bound). bound_effect z y) x
+        (cond c (b ∷ filter (λ (z : Bound). bytes_eq m (bound_name z)) bs) (filter (λ (z : Bound). bytes_eq m (bound_name z)) bs)))
     by true g = g
     by false g = g

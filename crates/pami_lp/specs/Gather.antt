@@ -42,10 +42,13 @@ goal_names (Parts p ls) = part_names p ++ flat_map (λ (l : Later). part_names l
 abbrev pub terms_names : Terms → List (List ℕ)
 terms_names ts = ts.first.name ∷ map (λ (f : Further). f.term.name) ts.more
 
+abbrev pub terms_of : Side → Terms
+terms_of (Right ts r v) = ts
+terms_of (Left v r ts) = ts
+terms_of (Both v w ts u) = ts
+
 abbrev pub side_names : Side → List (List ℕ)
-side_names (Right ts r v) = terms_names ts
-side_names (Left v r ts) = terms_names ts
-side_names (Both v w ts u) = terms_names ts
+side_names s = terms_names (terms_of s)
 
 abbrev pub bound_name : Bound → List ℕ
 bound_name (Set name r v) = name
@@ -109,7 +112,8 @@ goal_prices (Parts p ls) = part_prices false p ++ flat_map (λ (l : Later). part
 
 abbrev pub goal_constants : Goal → List Fraction
 goal_constants Nothing = []
-goal_constants (Parts p ls) = part_constants false p ++ flat_map (λ (l : Later). part_constants (is_minus l.turn) l.part) ls
+goal_constants (Parts p ls) =
+    part_constants false p ++ flat_map (λ (l : Later). part_constants (is_minus l.turn) l.part) ls
 
 -- a sum with these added in their order
 abbrev pub plus_all : Fraction → List Fraction → Fraction
@@ -143,12 +147,15 @@ span_set r sides x = record { bounds = bounds_set r x.stated x.bounds sides; sta
 abbrev pub bound_effect : Bound → Span → Span
 bound_effect (Set name r v) x = span_set r (sides_by (right_side r v unbounded)) x
 bound_effect (From v r name) x = span_set (turned r) (sides_by (left_side v r unbounded)) x
-bound_effect (Between v w name u) x = span_set (way w) (sides_by (right_side (way w) u unbounded)) (span_set (turned (way w)) (sides_by (left_side v (way w) unbounded)) x)
+bound_effect (Between v w name u) x =
+    span_set (way w) (sides_by (right_side (way w) u unbounded))
+    (span_set (turned (way w)) (sides_by (left_side v (way w) unbounded)) x)
 bound_effect (Freed name) x = record { bounds = unbounded; stated = true }
 
 -- the span behind the bounds of a name, one after another
 abbrev pub span_of : List ℕ → Span → List Bound → Span
-span_of name x bs = fold (λ (y : Span) (b : Bound). bound_effect b y) x (filter (λ (b : Bound). bytes_eq name (bound_name b)) bs)
+span_of name x bs =
+    fold (λ (y : Span) (b : Bound). bound_effect b y) x (filter (λ (b : Bound). bytes_eq name (bound_name b)) bs)
 
 abbrev pub bounds_in : Option (List Bound) → List Bound
 bounds_in None = []
@@ -156,4 +163,5 @@ bounds_in (Some bs) = bs
 
 -- a column's bounds are 0 and infinity, and then what the bounds of its name make of them
 pub record IsBounded (f : File) (d : Draft) : Type 0 where
-  pub bounds : (name : List ℕ) → (column_named d.columns name).bounds ≡ (span_of name (record { bounds = nonnegative; stated = false }) (bounds_in f.bounds)).bounds
+  pub bounds : (name : List ℕ)
+      → (column_named d.columns name).bounds ≡ (span_of name (record { bounds = nonnegative; stated = false }) (bounds_in f.bounds)).bounds
