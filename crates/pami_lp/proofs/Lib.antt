@@ -31,5 +31,7 @@ pub mod Columns
 pub mod Gathered
 pub mod Prices
 pub mod Still
+pub mod Totals
+pub mod Entered
 pub mod Spans
 pub mod Spanned

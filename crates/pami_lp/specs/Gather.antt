@@ -1,4 +1,4 @@
--- What the parts of a file give, gathered: its columns by first appearance with their costs and bounds, the
+-- What the parts of a file give, gathered: its columns by first appearance with their costs, entries and bounds, the
 -- constant, and its rows with their names and sides.
 use Rattle.std.specs.Prelude.{◌≡◌, ℕ, ◌+◌, Bool, true, false, List, [], ◌∷◌, ◌++◌, map, filter, fold, Option, None, Some, Result, Ok, Err, if◌then◌else◌}
 use Rattle.std.specs.List.{flat_map}
@@ -9,10 +9,11 @@ use Rattle.pami_algebra.specs.Operations.{◌+ᶠ◌}
 use Rattle.pami_frac.specs.Decimal.{decimal_value}
 use Rattle.pami_model.specs.declared.list.Column.{Column}
 use Rattle.pami_frac.specs.declared.list.Bounds.{Bounds}
+use Rattle.pami_frac.specs.declared.list.Entry.{Entry}
 use Rattle.pami_frac.specs.Answers.{then as chain}
 use Rattle.pami_model.specs.declared.fault.FileKind.{FileKind}
 use Rattle.pami_model.specs.declared.list.Row.{Row as ModelRow}
-use Rattle.pami_model.specs.Draft.{Draft, new_column, new_row, nonnegative, place_of, zero}
+use Rattle.pami_model.specs.Draft.{Draft, is_zero, new_column, new_row, nonnegative, place_of, zero}
 use Rattle.pami_model.specs.Rules.{names_of_columns}
 use Rattle.pami_lp_text.specs.declared.kind.Relation.{Relation}
 use Rattle.pami_lp_text.specs.declared.kind.Relation.TheVariants as relations
@@ -127,6 +128,30 @@ plus_for name t ps = fold (λ t p. t +ᶠ p.1) t (filter (λ p. bytes_eq name p.
 pub record IsPriced (f : File) (d : Draft) : Type 0 where
   pub constant : d.constant ≡ plus_all zero (goal_constants f.goal)
   pub costs : (name : List ℕ) → (column_named d.columns name).cost ≡ plus_for name zero (goal_prices f.goal)
+
+-- ---- entries
+
+-- the coefficients of a row with their names
+abbrev pub named_terms : Terms → List (List ℕ × Fraction)
+named_terms ts =
+    (ts.first.name, coefficient_in false ts.first)
+    ∷ map (λ (f : Further). (f.term.name, coefficient_in (is_minus f.turn) f.term)) ts.more
+
+abbrev pub side_terms : Side → List (List ℕ × Fraction)
+side_terms s = named_terms (terms_of s)
+
+-- what a row stores in a column where its coefficients sum to this: their sum, unless it is 0
+abbrev pub entries_at : ℕ → Fraction → List Entry
+entries_at row sum = if is_zero sum then [] else record { place = row; value = sum } ∷ []
+
+-- what the rows from this place on store in the column of a name, by rising row
+abbrev pub entries_from : ℕ → List ℕ → List Row → List Entry
+entries_from k name [] = []
+entries_from k name (r ∷ rs) = entries_at k (plus_for name zero (side_terms r.side)) ++ entries_from (k + 1) name rs
+
+-- a column has an entry in each row where its name's coefficients, added in their order, don't give 0
+pub record IsEntered (f : File) (d : Draft) : Type 0 where
+  pub entries : (name : List ℕ) → (column_named d.columns name).entries ≡ entries_from 0 name f.rows
 
 -- ---- bounds
 

@@ -4,7 +4,7 @@ ghost use Rattle.std.specs.Prelude.{◌≡◌, ℕ, List, Ok};
 ghost use Rattle.pami_model.specs.Contents.{Contents};
 ghost use Rattle.pami_model.specs.declared.fault.FileFault.{FileFault};
 ghost use Rattle.pami_model.specs.Draft.{Draft};
-ghost use Rattle.pami_lp.specs.Gather.{IsBounded, IsGathered, IsPriced};
+ghost use Rattle.pami_lp.specs.Gather.{IsBounded, IsEntered, IsGathered, IsPriced};
 ghost use Rattle.pami_lp.specs.Grammar.{File};
 ghost use Rattle.pami_lp.specs.Meaning.{draft_of};
 ghost use Rattle.pami_lp.specs.Lp.{FirstFault, HasModelOrFault, Lp};
@@ -39,6 +39,12 @@ pub fn files_are_gathered()
 /// coefficients there, in their order.
 pub fn costs_are_sums()
     ensures { (f : File) (d : Draft) → draft_of f ≡ Ok d → IsPriced f d }
+{}
+
+/// A column has an entry, the sum of its name's coefficients in their order, in each row where that isn't 0; by rising
+/// row, which goes by the row's place among all.
+pub fn entries_are_sums()
+    ensures { (f : File) (d : Draft) → draft_of f ≡ Ok d → IsEntered f d }
 {}
 
 /// A column's bounds are 0 and infinity, and then what the bounds of its name set, one after another: later ones
