@@ -7,7 +7,7 @@ use Rattle.pami_frac.specs.Decimal.{is_digit, is_point, is_sign, is_mark, before
 use Rattle.pami_lp_text.specs.declared.kind.Scan.{Scan}
 use Rattle.pami_lp_text.specs.declared.kind.Scan.TheVariants.{Start, Digits, Point, Fraction, Mark, MarkSign, Power, Name, Less, Equals, Greater, Closed, Dead}
 use Rattle.pami_lp_text.specs.Lexeme.{starts_name, is_name_byte, is_name, is_number, is_signs, is_blank, is_lexeme, is_letter, is_symbol}
-use Rattle.pami_lp_text.specs.Scanning.{begun, scanned, is_whole, through, digit_to, in_number, is_number_scan, is_name_scan}
+use Rattle.pami_lp_text.specs.Scanning.{begun, scanned, is_whole, through, digit_to, in_number, is_number_scan}
 
 none : (a b : Bool) → a ≡ false → b ≡ false → (a || b) ≡ false
 none false b e f = f
@@ -110,7 +110,8 @@ fraction : (bs : List ℕ) → is_whole (through Fraction bs) ≡ fraction_rest 
 fraction [] = refl
 fraction (b ∷ bs) = go (is_digit b) (is_mark b) (fraction bs) refl refl
   where
-    go : (c m : Bool) → is_whole (through Fraction bs) ≡ fraction_rest bs → is_digit b ≡ c → is_mark b ≡ m → is_whole (through (cond c Fraction (cond m Mark Dead)) bs) ≡ fraction_rest (b ∷ bs)
+    go : (c m : Bool) → is_whole (through Fraction bs) ≡ fraction_rest bs → is_digit b ≡ c → is_mark b ≡ m
+        → is_whole (through (cond c Fraction (cond m Mark Dead)) bs) ≡ fraction_rest (b ∷ bs)
     go c true h e f = rw (before-cons is_mark b bs true f, onward-cons is_mark b bs true f) (marked c e)
       where
         marked : (c : Bool) → is_digit b ≡ c → is_whole (through (cond c Fraction Mark) bs) ≡ are_digits (unsigned bs)
@@ -121,25 +122,52 @@ fraction (b ∷ bs) = go (is_digit b) (is_mark b) (fraction bs) refl refl
 
 -- digits and a point that may be missing, before an exponent that may be missing
 abbrev pub digits_rest : List ℕ → Bool
-digits_rest bs = list_all is_digit (before is_point (before is_mark bs)) && (list_all is_digit (drop 1 (onward is_point (before is_mark bs))) && is_exponent (onward is_mark bs))
+digits_rest bs =
+    list_all is_digit (before is_point (before is_mark bs)) &&
+    (list_all is_digit (drop 1 (onward is_point (before is_mark bs))) && is_exponent (onward is_mark bs))
 
 digits : (bs : List ℕ) → is_whole (through Digits bs) ≡ digits_rest bs
 digits [] = refl
 digits (b ∷ bs) = go (is_point b) (is_digit b) (is_mark b) (digits bs) refl refl refl
   where
-    go : (p c m : Bool) → is_whole (through Digits bs) ≡ digits_rest bs → is_point b ≡ p → is_digit b ≡ c → is_mark b ≡ m → is_whole (through (cond p Fraction (cond c Digits (cond m Mark Dead))) bs) ≡ digits_rest (b ∷ bs)
+    go : (p c m : Bool) → is_whole (through Digits bs) ≡ digits_rest bs → is_point b ≡ p → is_digit b ≡ c → is_mark b ≡ m
+        → is_whole (through (cond p Fraction (cond c Digits (cond m Mark Dead))) bs) ≡ digits_rest (b ∷ bs)
     go true c true h e f g = absurd (true≢false (sym g ∙ point_unmarked b e))
-    go true c false h e f g = rw (before-cons is_mark b bs false g, onward-cons is_mark b bs false g, before-cons is_point b (before is_mark bs) true e, onward-cons is_point b (before is_mark bs) true e) (fraction bs)
+    go true c false h e f g =
+        rw (
+          before-cons is_mark b bs false g,
+          onward-cons is_mark b bs false g,
+          before-cons is_point b (before is_mark bs) true e,
+          onward-cons is_point b
+              (before is_mark bs) true e,
+        ) (fraction bs)
     go false true true h e f g = absurd (true≢false (sym g ∙ digit_unmarked b f))
-    go false true false h e f g = rw (before-cons is_mark b bs false g, onward-cons is_mark b bs false g, before-cons is_point b (before is_mark bs) false e, onward-cons is_point b (before is_mark bs) false e, f) h
+    go false true false h e f g =
+        rw (
+          before-cons is_mark b bs false g,
+          onward-cons is_mark b bs false g,
+          before-cons is_point b (before is_mark bs) false e,
+          onward-cons is_point b
+              (before is_mark bs) false e,
+          f,
+        ) h
     go false false true h e f g = rw (before-cons is_mark b bs true g, onward-cons is_mark b bs true g) (mark bs)
-    go false false false h e f g = rw (before-cons is_mark b bs false g, onward-cons is_mark b bs false g, before-cons is_point b (before is_mark bs) false e, onward-cons is_point b (before is_mark bs) false e, f) (dead bs)
+    go false false false h e f g =
+        rw (
+          before-cons is_mark b bs false g,
+          onward-cons is_mark b bs false g,
+          before-cons is_point b (before is_mark bs) false e,
+          onward-cons is_point b
+              (before is_mark bs) false e,
+          f,
+        ) (dead bs)
 
 point : (bs : List ℕ) → is_whole (through Point bs) ≡ (are_digits (before is_mark bs) && is_exponent (onward is_mark bs))
 point [] = refl
 point (b ∷ bs) = go (is_digit b) (is_mark b) refl refl
   where
-    go : (c m : Bool) → is_digit b ≡ c → is_mark b ≡ m → is_whole (through (cond c Fraction Dead) bs) ≡ (are_digits (before is_mark (b ∷ bs)) && is_exponent (onward is_mark (b ∷ bs)))
+    go : (c m : Bool) → is_digit b ≡ c → is_mark b ≡ m
+        → is_whole (through (cond c Fraction Dead) bs) ≡ (are_digits (before is_mark (b ∷ bs)) && is_exponent (onward is_mark (b ∷ bs)))
     go true true f g = absurd (true≢false (sym g ∙ digit_unmarked b f))
     go true false f g = rw (before-cons is_mark b bs false g, onward-cons is_mark b bs false g, f) (fraction bs)
     go false true f g = rw (before-cons is_mark b bs true g) (dead bs)
@@ -159,16 +187,26 @@ and_assoc false b c = refl
 
 number_digit : (b : ℕ) (bs : List ℕ) → is_digit b ≡ true → is_number (b ∷ bs) ≡ digits_rest bs
 number_digit b bs h =
-    rw (digit_unsigned b h, before-cons is_mark b bs false (digit_unmarked b h), onward-cons is_mark b bs false (digit_unmarked b h), before-cons is_point b (before is_mark bs) false (digit_pointless b h), onward-cons is_point b (before is_mark bs) false (digit_pointless b h), h)
-    (ap (λ d. d && is_exponent (onward is_mark bs)) (list_all-append is_digit (before is_point (before is_mark bs)) (drop 1 (onward is_point (before is_mark bs))))
-    ∙ and_assoc (list_all is_digit (before is_point (before is_mark bs))) (list_all is_digit (drop 1 (onward is_point (before is_mark bs)))) (is_exponent (onward is_mark bs)))
+    rw (
+      digit_unsigned b h,
+      before-cons is_mark b bs false (digit_unmarked b h),
+      onward-cons is_mark b bs false (digit_unmarked b h),
+      before-cons is_point b
+          (before is_mark bs) false (digit_pointless b h),
+      onward-cons is_point b (before is_mark bs) false (digit_pointless b h),
+      h,
+    )
+    (ap (λ d. d && is_exponent (onward is_mark bs))
+    (list_all-append is_digit (before is_point (before is_mark bs)) (drop 1 (onward is_point (before is_mark bs))))
+    ∙ and_assoc (list_all is_digit (before is_point (before is_mark bs))) (list_all is_digit (drop 1 (onward is_point (before is_mark bs))))
+    (is_exponent (onward is_mark bs)))
 
 number_point : (bs : List ℕ) → is_number (46 ∷ bs) ≡ (are_digits (before is_mark bs) && is_exponent (onward is_mark bs))
 number_point bs =
     ap (λ s. are_digits (before is_point s ++ drop 1 (onward is_point s)) && is_exponent (onward is_mark (46 ∷ bs))) (before-cons is_mark 46 bs false refl)
     ∙ ap (λ e. are_digits (before is_mark bs) && is_exponent e) (onward-cons is_mark 46 bs false refl)
 
-number_none : (b : ℕ) (bs : List ℕ) → is_digit b ≡ false → is_point b ≡ false → is_number (b ∷ bs) ≡ false
+pub number_none : (b : ℕ) (bs : List ℕ) → is_digit b ≡ false → is_point b ≡ false → is_number (b ∷ bs) ≡ false
 number_none b bs d p = go (is_sign b) (is_mark b) refl refl
   where
     go : (s m : Bool) → is_sign b ≡ s → is_mark b ≡ m → is_number (b ∷ bs) ≡ false
@@ -185,7 +223,8 @@ second4 true b c d e f g = absurd (true≢false e)
 second4 false true c d e f g = refl
 second4 false false c d e f g = rw (f, g) refl
 
-signs_none : (b : ℕ) (bs : List ℕ) → nat_eq b 60 ≡ false → nat_eq b 61 ≡ false → nat_eq b 62 ≡ false → nat_eq b 43 ≡ false → nat_eq b 45 ≡ false → nat_eq b 58 ≡ false → is_signs (b ∷ bs) ≡ false
+signs_none : (b : ℕ) (bs : List ℕ) → nat_eq b 60 ≡ false → nat_eq b 61 ≡ false → nat_eq b 62 ≡ false → nat_eq b 43 ≡ false → nat_eq b 45 ≡ false
+    → nat_eq b 58 ≡ false → is_signs (b ∷ bs) ≡ false
 signs_none b [] e f g h i j = rw (e, f, g, h, i, j) refl
 signs_none b (c ∷ []) e f g h i j = rw (e, f, g) refl
 signs_none b (c ∷ d ∷ ds) e f g h i j = refl
@@ -201,7 +240,8 @@ Begins bs b = is_lexeme (b ∷ bs) ≡ is_whole (through (begun b) bs)
 begins_digit : (b : ℕ) (bs : List ℕ) → is_digit b ≡ true → Begins bs b
 begins_digit b bs h =
     only4 (is_number (b ∷ bs)) (is_name (b ∷ bs)) (is_signs (b ∷ bs)) (is_blank (b ∷ bs)) (rw (digit_alone b h) refl)
-    (signs_none b bs (digit_apart b 60 refl h) (digit_apart b 61 refl h) (digit_apart b 62 refl h) (digit_apart b 43 refl h) (digit_apart b 45 refl h) (digit_apart b 58 refl h))
+    (signs_none b bs (digit_apart b 60 refl h) (digit_apart b 61 refl h) (digit_apart b 62 refl h) (digit_apart b 43 refl h) (digit_apart b 45 refl h)
+    (digit_apart b 58 refl h))
     (blank_none b bs (digit_apart b 32 refl h) (digit_apart b 9 refl h))
     ∙ number_digit b bs h ∙ sym (digits bs) ∙ rw h refl
 
@@ -210,13 +250,15 @@ begins_name b bs h =
     let m : is_name (b ∷ bs) ≡ is_whole (through Name bs) = rw h (sym (names bs)) in
     let k : is_whole (through Name bs) ≡ is_whole (through (begun b) bs) = rw (name_no_digit b h, h) refl in
     second4 (is_number (b ∷ bs)) (is_name (b ∷ bs)) (is_signs (b ∷ bs)) (is_blank (b ∷ bs)) (number_none b bs (name_no_digit b h) (name_apart b 46 refl h))
-    (signs_none b bs (name_apart b 60 refl h) (name_apart b 61 refl h) (name_apart b 62 refl h) (name_apart b 43 refl h) (name_apart b 45 refl h) (name_apart b 58 refl h))
+    (signs_none b bs (name_apart b 60 refl h) (name_apart b 61 refl h) (name_apart b 62 refl h) (name_apart b 43 refl h) (name_apart b 45 refl h)
+    (name_apart b 58 refl h))
     (blank_none b bs (name_apart b 32 refl h) (name_apart b 9 refl h))
     ∙ m ∙ k
 
 begins_point : (bs : List ℕ) → Begins bs 46
 begins_point bs =
-    only4 (is_number (46 ∷ bs)) (is_name (46 ∷ bs)) (is_signs (46 ∷ bs)) (is_blank (46 ∷ bs)) refl (signs_none 46 bs refl refl refl refl refl refl) (blank_none 46 bs refl refl)
+    only4 (is_number (46 ∷ bs)) (is_name (46 ∷ bs)) (is_signs (46 ∷ bs)) (is_blank (46 ∷ bs)) refl (signs_none 46 bs refl refl refl refl refl refl)
+    (blank_none 46 bs refl refl)
     ∙ number_point bs ∙ sym (point bs)
 
 begins_less : (bs : List ℕ) → Begins bs 60
@@ -259,7 +301,8 @@ begins_equals (c ∷ d ∷ ds) = rw (number_none 61 (c ∷ d ∷ ds) refl refl) 
     go true = sym (dead ds)
     go false = sym (dead ds)
 
-begins_closed : (b : ℕ) (bs : List ℕ) → begun b ≡ Closed → is_digit b ≡ false → starts_name b ≡ false → is_point b ≡ false → nat_eq b 60 ≡ false → nat_eq b 61 ≡ false → nat_eq b 62 ≡ false → (nat_eq b 43 || nat_eq b 45 || nat_eq b 58 || nat_eq b 32 || nat_eq b 9) ≡ true → Begins bs b
+begins_closed : (b : ℕ) (bs : List ℕ) → begun b ≡ Closed → is_digit b ≡ false → starts_name b ≡ false → is_point b ≡ false → nat_eq b 60 ≡ false
+    → nat_eq b 61 ≡ false → nat_eq b 62 ≡ false → (nat_eq b 43 || nat_eq b 45 || nat_eq b 58 || nat_eq b 32 || nat_eq b 9) ≡ true → Begins bs b
 begins_closed b [] e d n p l q g h =
     let i : is_lexeme (b ∷ []) ≡ true = rw (number_none b [] d p, n, l, q, g) (go (nat_eq b 43) (nat_eq b 45) (nat_eq b 58) (nat_eq b 32) (nat_eq b 9) h) in
     i ∙ sym (ap is_whole e)
@@ -278,28 +321,33 @@ begins_closed b (c ∷ bs) e d n p l q g h =
     longer [] = rw (l, q, g) refl
     longer (x ∷ ds) = refl
 
-begins_dead : (b : ℕ) (bs : List ℕ) → begun b ≡ Dead → is_digit b ≡ false → starts_name b ≡ false → is_point b ≡ false → nat_eq b 60 ≡ false → nat_eq b 61 ≡ false → nat_eq b 62 ≡ false → (nat_eq b 43 || nat_eq b 45 || nat_eq b 58 || nat_eq b 32 || nat_eq b 9) ≡ false → Begins bs b
+begins_dead : (b : ℕ) (bs : List ℕ) → begun b ≡ Dead → is_digit b ≡ false → starts_name b ≡ false → is_point b ≡ false → nat_eq b 60 ≡ false
+    → nat_eq b 61 ≡ false → nat_eq b 62 ≡ false → (nat_eq b 43 || nat_eq b 45 || nat_eq b 58 || nat_eq b 32 || nat_eq b 9) ≡ false → Begins bs b
 begins_dead b bs e d n p l q g h = go (nat_eq b 43) (nat_eq b 45) (nat_eq b 58) (nat_eq b 32) (nat_eq b 9) refl refl refl refl refl h
   where
-    go : (x y z u v : Bool) → nat_eq b 43 ≡ x → nat_eq b 45 ≡ y → nat_eq b 58 ≡ z → nat_eq b 32 ≡ u → nat_eq b 9 ≡ v → (x || y || z || u || v) ≡ false → Begins bs b
+    go : (x y z u v : Bool) → nat_eq b 43 ≡ x → nat_eq b 45 ≡ y → nat_eq b 58 ≡ z → nat_eq b 32 ≡ u → nat_eq b 9 ≡ v → (x || y || z || u || v) ≡ false
+        → Begins bs b
     go true y z u v e1 e2 e3 e4 e5 k = absurd (true≢false k)
     go false true z u v e1 e2 e3 e4 e5 k = absurd (true≢false k)
     go false false true u v e1 e2 e3 e4 e5 k = absurd (true≢false k)
     go false false false true v e1 e2 e3 e4 e5 k = absurd (true≢false k)
     go false false false false true e1 e2 e3 e4 e5 k = absurd (true≢false k)
     go false false false false false e1 e2 e3 e4 e5 k =
-        only4 (is_number (b ∷ bs)) (is_name (b ∷ bs)) (is_signs (b ∷ bs)) (is_blank (b ∷ bs)) (rw n refl) (signs_none b bs l q g e1 e2 e3) (blank_none b bs e4 e5)
+        only4 (is_number (b ∷ bs)) (is_name (b ∷ bs)) (is_signs (b ∷ bs)) (is_blank (b ∷ bs)) (rw n refl) (signs_none b bs l q g e1 e2 e3)
+        (blank_none b bs e4 e5)
         ∙ number_none b bs d p ∙ sym (ap (λ (s : Scan). is_whole (through s bs)) e ∙ dead bs)
 
 pub lexeme_is : (bs : List ℕ) → is_lexeme bs ≡ is_whole (through Start bs)
 lexeme_is [] = refl
 lexeme_is (b ∷ bs) = digit (is_digit b) refl
   where
-    closed : (c : Bool) → (nat_eq b 43 || nat_eq b 45 || nat_eq b 58 || nat_eq b 32 || nat_eq b 9) ≡ c → is_digit b ≡ false → starts_name b ≡ false → nat_eq b 46 ≡ false → nat_eq b 60 ≡ false → nat_eq b 61 ≡ false → nat_eq b 62 ≡ false → Begins bs b
+    closed : (c : Bool) → (nat_eq b 43 || nat_eq b 45 || nat_eq b 58 || nat_eq b 32 || nat_eq b 9) ≡ c → is_digit b ≡ false → starts_name b ≡ false
+        → nat_eq b 46 ≡ false → nat_eq b 60 ≡ false → nat_eq b 61 ≡ false → nat_eq b 62 ≡ false → Begins bs b
     closed true h d n p l q g = begins_closed b bs (rw (d, n, p, l, q, g, h) refl) d n p l q g h
     closed false h d n p l q g = begins_dead b bs (rw (d, n, p, l, q, g, h) refl) d n p l q g h
 
-    greater : (c : Bool) → nat_eq b 62 ≡ c → is_digit b ≡ false → starts_name b ≡ false → nat_eq b 46 ≡ false → nat_eq b 60 ≡ false → nat_eq b 61 ≡ false → Begins bs b
+    greater : (c : Bool) → nat_eq b 62 ≡ c → is_digit b ≡ false → starts_name b ≡ false → nat_eq b 46 ≡ false → nat_eq b 60 ≡ false → nat_eq b 61 ≡ false
+        → Begins bs b
     greater true h d n p l q = subst (Begins bs) (sym (eqb-true b 62 h)) (begins_greater bs)
     greater false h d n p l q = closed (nat_eq b 43 || nat_eq b 45 || nat_eq b 58 || nat_eq b 32 || nat_eq b 9) refl d n p l q h
 
@@ -323,7 +371,7 @@ lexeme_is (b ∷ bs) = digit (is_digit b) refl
     digit true h = begins_digit b bs h
     digit false h = name (starts_name b) refl h
 
--- ---- numbers and names by the scan at their end
+-- ---- numbers by the scan at their end
 
 abbrev numeric : Scan → Bool
 numeric Digits = true
@@ -350,7 +398,9 @@ pick P false s t h k = k
 
 numeric_stays : (s : Scan) (b : ℕ) → numeric s ≡ true → numeric (scanned s b) ≡ true
 numeric_stays Start b h = absurd (true≢false (sym h))
-numeric_stays Digits b h = pick numeric (is_point b) Fraction (in_number b Digits) refl (pick numeric (is_digit b) Digits (cond (is_mark b) Mark Dead) refl (pick numeric (is_mark b) Mark Dead refl refl))
+numeric_stays Digits b h =
+    pick numeric (is_point b) Fraction (in_number b Digits) refl
+    (pick numeric (is_digit b) Digits (cond (is_mark b) Mark Dead) refl (pick numeric (is_mark b) Mark Dead refl refl))
 numeric_stays Point b h = pick numeric (is_digit b) Fraction Dead refl refl
 numeric_stays Fraction b h = pick numeric (is_digit b) Fraction (cond (is_mark b) Mark Dead) refl (pick numeric (is_mark b) Mark Dead refl refl)
 numeric_stays Mark b h = pick numeric (is_sign b) MarkSign (digit_to b Power) refl (pick numeric (is_digit b) Power Dead refl refl)
@@ -415,10 +465,15 @@ number_is [] = refl
 number_is (b ∷ bs) = digit (is_digit b) refl
   where
     begun_other : is_digit b ≡ false → nat_eq b 46 ≡ false → other (begun b) ≡ true
-    begun_other d p = rw (d, p) (pick other (starts_name b) Name _ refl (pick other (nat_eq b 60) Less _ refl (pick other (nat_eq b 61) Equals _ refl (pick other (nat_eq b 62) Greater _ refl (pick other (nat_eq b 43 || nat_eq b 45 || nat_eq b 58 || nat_eq b 32 || nat_eq b 9) Closed Dead refl refl)))))
+    begun_other d p =
+        rw (d, p)
+        (pick other (starts_name b) Name _ refl (pick other (nat_eq b 60) Less _ refl (pick other (nat_eq b 61) Equals _ refl
+        (pick other (nat_eq b 62) Greater _ refl (pick other (nat_eq b 43 || nat_eq b 45 || nat_eq b 58 || nat_eq b 32 || nat_eq b 9) Closed Dead refl refl)))))
 
     pointed : (c : Bool) → nat_eq b 46 ≡ c → is_digit b ≡ false → is_number (b ∷ bs) ≡ is_number_scan (through (begun b) bs)
-    pointed true h d = subst (λ (a : ℕ). is_number (a ∷ bs) ≡ is_number_scan (through (begun a) bs)) (sym (eqb-true b 46 h)) (number_point bs ∙ sym (point bs) ∙ whole_number Point bs refl)
+    pointed true h d =
+        subst (λ (a : ℕ). is_number (a ∷ bs) ≡ is_number_scan (through (begun a) bs)) (sym (eqb-true b 46 h))
+        (number_point bs ∙ sym (point bs) ∙ whole_number Point bs refl)
     pointed false h d = number_none b bs d h ∙ sym (no_number (begun b) bs (begun_other d h))
 
     digit : (c : Bool) → is_digit b ≡ c → is_number (b ∷ bs) ≡ is_number_scan (through (begun b) bs)
@@ -427,67 +482,3 @@ number_is (b ∷ bs) = digit (is_digit b) refl
         begun_digit : is_digit b ≡ true → begun b ≡ Digits
         begun_digit h = rw h refl
     digit false h = pointed (nat_eq b 46) refl h
-
--- where neither a digit nor a name begins
-abbrev rest : ℕ → Scan
-rest b =
-    cond (nat_eq b 46) Point (cond (nat_eq b 60) Less (cond (nat_eq b 61) Equals (cond (nat_eq b 62) Greater
-    (cond (nat_eq b 43 || nat_eq b 45 || nat_eq b 58 || nat_eq b 32 || nat_eq b 9) Closed Dead))))
-
-name_dead : (bs : List ℕ) → is_name_scan (through Dead bs) ≡ false
-name_dead [] = refl
-name_dead (b ∷ bs) = name_dead bs
-
-name_scan : (bs : List ℕ) → is_name_scan (through Name bs) ≡ list_all is_name_byte bs
-name_scan [] = refl
-name_scan (b ∷ bs) = go (is_name_byte b) (name_scan bs)
-  where
-    go : (c : Bool) → is_name_scan (through Name bs) ≡ list_all is_name_byte bs → is_name_scan (through (cond c Name Dead) bs) ≡ (c && list_all is_name_byte bs)
-    go true h = h
-    go false h = name_dead bs
-
-abbrev nameless : Scan → Bool
-nameless Start = false
-nameless Name = false
-nameless s = true
-
-nameless_stays : (s : Scan) (b : ℕ) → nameless s ≡ true → nameless (scanned s b) ≡ true
-nameless_stays Start b h = absurd (true≢false (sym h))
-nameless_stays Digits b h = pick nameless (is_point b) Fraction (in_number b Digits) refl (pick nameless (is_digit b) Digits (cond (is_mark b) Mark Dead) refl (pick nameless (is_mark b) Mark Dead refl refl))
-nameless_stays Point b h = pick nameless (is_digit b) Fraction Dead refl refl
-nameless_stays Fraction b h = pick nameless (is_digit b) Fraction (cond (is_mark b) Mark Dead) refl (pick nameless (is_mark b) Mark Dead refl refl)
-nameless_stays Mark b h = pick nameless (is_sign b) MarkSign (digit_to b Power) refl (pick nameless (is_digit b) Power Dead refl refl)
-nameless_stays MarkSign b h = pick nameless (is_digit b) Power Dead refl refl
-nameless_stays Power b h = pick nameless (is_digit b) Power Dead refl refl
-nameless_stays Name b h = absurd (true≢false (sym h))
-nameless_stays Less b h = pick nameless (nat_eq b 61) Closed Dead refl refl
-nameless_stays Equals b h = pick nameless (nat_eq b 60 || nat_eq b 62) Closed Dead refl refl
-nameless_stays Greater b h = pick nameless (nat_eq b 61) Closed Dead refl refl
-nameless_stays Closed b h = refl
-nameless_stays Dead b h = refl
-
-no_name : (s : Scan) (bs : List ℕ) → nameless s ≡ true → is_name_scan (through s bs) ≡ false
-no_name s (b ∷ bs) h = no_name (scanned s b) bs (nameless_stays s b h)
-no_name Start [] h = refl
-no_name Name [] h = absurd (true≢false (sym h))
-no_name Digits [] h = refl
-no_name Point [] h = refl
-no_name Fraction [] h = refl
-no_name Mark [] h = refl
-no_name MarkSign [] h = refl
-no_name Power [] h = refl
-no_name Less [] h = refl
-no_name Equals [] h = refl
-no_name Greater [] h = refl
-no_name Closed [] h = refl
-no_name Dead [] h = refl
-
-pub name_is : (text : List ℕ) → is_name text ≡ is_name_scan (through Start text)
-name_is [] = refl
-name_is (b ∷ bs) = go (is_digit b) (starts_name b) refl refl
-  where
-    go : (d n : Bool) → is_digit b ≡ d → starts_name b ≡ n → (n && list_all is_name_byte bs) ≡ is_name_scan (through (cond d Digits (cond n Name (rest b))) bs)
-    go true true e f = absurd (true≢false (sym f ∙ digit_alone b e))
-    go true false e f = sym (no_name Digits bs refl)
-    go false true e f = sym (name_scan bs)
-    go false false e f = sym (no_name (rest b) bs (pick nameless (nat_eq b 46) Point _ refl (pick nameless (nat_eq b 60) Less _ refl (pick nameless (nat_eq b 61) Equals _ refl (pick nameless (nat_eq b 62) Greater _ refl (pick nameless (nat_eq b 43 || nat_eq b 45 || nat_eq b 58 || nat_eq b 32 || nat_eq b 9) Closed Dead refl refl))))))

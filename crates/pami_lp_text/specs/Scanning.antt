@@ -61,7 +61,3 @@ is_number_scan Digits = true
 is_number_scan Fraction = true
 is_number_scan Power = true
 is_number_scan s = false
-
-abbrev pub is_name_scan : Scan → Bool
-is_name_scan Name = true
-is_name_scan s = false

@@ -3,11 +3,12 @@
 ghost use Rattle.std.specs.Prelude.{◌≡◌, codes, if◌then◌else◌, Option, None, Some};
 ghost use Rattle.std.specs.Char.{to_ascii_lowercase};
 ghost use Rattle.pami_lp_text.specs.Classes as classes;
-ghost use Rattle.pami_lp_text.specs.Scanning.{is_number_scan, is_name_scan};
+ghost use Rattle.pami_lp_text.specs.Lexeme as lexeme;
+ghost use Rattle.pami_lp_text.specs.Scanning.{is_number_scan};
 ghost use Rattle.pami_lp_text.specs.Classes.{class_by, is_least, is_greatest};
 
 use crate::kind::{Class, Relation, Scan};
-use crate::scan::scan_of;
+use crate::scan::{is_digit, is_name_byte, scan_of, starts_name};
 use crate::token::Token;
 use pami_model::Sense;
 
@@ -149,7 +150,7 @@ fn mark_class(text: &[u8]) -> Class
 }
 
 /// Whether a scan is that of a number.
-fn is_number(scan: Scan) -> bool
+fn ends_number(scan: Scan) -> bool
     ensures { result ≡ is_number_scan scan }
 {
     match scan {
@@ -160,24 +161,46 @@ fn is_number(scan: Scan) -> bool
     }
 }
 
-fn is_name(scan: Scan) -> bool
-    ensures { result ≡ is_name_scan scan }
+/// Whether the text is a number. Only what begins with a digit or a point is scanned.
+fn is_number(text: &[u8]) -> bool
+    ensures { result ≡ lexeme.is_number text.now }
 {
-    match scan {
-        Scan::Name => true,
-        _ => false,
+    if text.is_empty() {
+        return false;
     }
+    let first = text[0];
+    if !is_digit(first) && first != b'.' {
+        return false;
+    }
+    ends_number(scan_of(text))
+}
+
+/// Whether the text is a name.
+fn is_name(text: &[u8]) -> bool
+    ensures { result ≡ lexeme.is_name text.now }
+{
+    if text.is_empty() {
+        return false;
+    }
+    if !starts_name(text[0]) {
+        return false;
+    }
+    for byte in text {
+        if !is_name_byte(*byte) {
+            return false;
+        }
+    }
+    true
 }
 
 /// The class of a token before the text `after`, which is empty at the end.
 pub fn class_of(text: &[u8], first: bool, after: &[u8]) -> Class
     ensures { result ≡ class_by text.now first after.now }
 {
-    let scan = scan_of(text);
-    if is_number(scan) {
+    if is_number(text) {
         return Class::Number;
     }
-    if !is_name(scan) {
+    if !is_name(text) {
         return mark_class(text);
     }
     let labelled = is_word(after, b":");

@@ -9,7 +9,7 @@ ghost use Rattle.pami_lp_text.specs.Scanning.{through};
 
 use crate::kind::Scan;
 
-fn is_digit(byte: u8) -> bool
+pub(crate) fn is_digit(byte: u8) -> bool
     ensures { result ≡ decimal.is_digit byte }
 {
     b'0' <= byte && byte <= b'9'
@@ -37,16 +37,16 @@ fn is_symbol(byte: u8) -> bool
 }
 
 /// Whether a name may begin with the byte.
-fn starts_name(byte: u8) -> bool
+pub(crate) fn starts_name(byte: u8) -> bool
     ensures { result ≡ lexeme.starts_name byte }
 {
     is_letter(byte) || is_symbol(byte)
 }
 
-fn is_name_byte(byte: u8) -> bool
+pub(crate) fn is_name_byte(byte: u8) -> bool
     ensures { result ≡ lexeme.is_name_byte byte }
 {
-    starts_name(byte) || is_digit(byte) || byte == b'.'
+    is_letter(byte) || is_digit(byte) || byte == b'.' || is_symbol(byte)
 }
 
 fn begun(byte: u8) -> Scan
@@ -95,7 +95,7 @@ fn digit_to(byte: u8, next: Scan) -> Scan
 }
 
 /// The scan with one more byte.
-pub(crate) fn scanned(scan: Scan, byte: u8) -> Scan
+fn scanned(scan: Scan, byte: u8) -> Scan
     ensures { result ≡ scanning.scanned scan byte }
 {
     match scan {
@@ -146,7 +146,7 @@ pub(crate) fn scanned(scan: Scan, byte: u8) -> Scan
 }
 
 /// Whether the bytes so far are a lexeme.
-pub(crate) fn is_whole(scan: Scan) -> bool
+fn is_whole(scan: Scan) -> bool
     ensures { result ≡ scanning.is_whole scan }
 {
     match scan {
