@@ -1,5 +1,5 @@
 #!/usr/bin/env bash
-# Times the reading of MPS files of about 16 MB, accepted and refused ones, beside glpsol on the same files:
+# Times the reading of MPS and LP files of about 16 MB, accepted and refused ones, beside glpsol on the same files:
 # read.sh [PROGRAM], by default the program that ./pami builds. Each number is the least of RUNS runs (3), which take turns.
 set -eu
 top=$(cd "$(dirname "${BASH_SOURCE[0]}")/.." && pwd)
@@ -19,7 +19,9 @@ fi
 # entries isn't reached. `sections`: the same with a range for each row and one or two bounds for each column. `names`: the
 # same again with fewer pairs, and names as long as may be. `again`: each column's bounds are written over and over. All are
 # optimal at the start. `.._broken` has a name in its last line but one that no line declared. glpsol takes no second bound of
-# a side, so it reads little of `again`.
+# a side in MPS, so it reads little of `again`. In LP it takes them: `terms` has 64,000 terms with short names, and each column's
+# bounds are written over and over; `long_terms` has 60,000 terms with names as long as may be. In both each term has a line
+# of its own, and the broken one has a value before `end` with nothing behind its relation.
 python3 - "$folder" <<'PY'
 import sys
 folder = sys.argv[1]
@@ -50,10 +52,22 @@ def bounds(name, vector):
     return lines
 
 
-def write(name, lines, last):
+def terms(name, entries, bounds):
+    """A model in LP in which each column has so many entries, and all begin at 0."""
+    lines = ["Minimize", " cost:"] + [" + 1.5 %s" % (name % j) for j in range(columns)] + ["Subject To"]
+    held = [[] for _ in range(rows)]
+    for j in range(columns):
+        for k in range(entries):
+            held[(j * 7 + k * 31) % rows].append(j)
+    for i, some in enumerate(held):
+        lines += [" row%03d:" % i] + [" + 2.25 %s" % (name % j) for j in some] + [" <= 10"]
+    return lines + ["Bounds"] + bounds
+
+
+def write(name, lines, last, ending="mps", end="ENDATA"):
     for kind, text in ((name, lines), (name + "_broken", lines + [last])):
-        with open("%s/%s.mps" % (folder, kind), "w") as file:
-            file.write("\n".join(text + ["ENDATA", ""]))
+        with open("%s/%s.%s" % (folder, kind, ending), "w") as file:
+            file.write("\n".join(text + [end, ""]))
 
 
 write("columns", body(short, 224), " rhs unknown 1")
@@ -65,6 +79,13 @@ for turn in range(rounds):
         lines.append([" UP set col%04d 7.25", " LO set col%04d -3.5", " FX set col%04d 0", " MI set col%04d", " PL set col%04d",
                       " FR set col%04d"][(turn + j) % 6] % j)
 write("again", lines + [" FX set col%04d 0" % j for j in range(columns)], " UP set unknown 1")
+settings = [" %s <= 7.25", " %s >= -3.5", " -3.5 <= %s <= 7.25", " %s = 0", " %s free", " 0 <= %s"]
+again = [settings[(turn + j) % 6] % (short % j) for turn in range(230) for j in range(columns)]
+write("terms", terms(short, 16, again + [" %s = 0" % (short % j) for j in range(columns)]), " 7.25 <=", "lp", "End")
+# A name doesn't begin with a digit in LP.
+letters = "col%04d" + 248 * "x"
+spans = [" 0 <= %s <= 7.25" % (letters % j) for j in range(0, columns, 2)]
+write("long_terms", terms(letters, 14, spans), " 7.25 <=", "lp", "End")
 PY
 ls -l "$folder" | awk 'NR > 1 { print $9, $5, "bytes" }'
 
@@ -83,15 +104,16 @@ less() {
 if ! command -v glpsol >/dev/null 2>&1; then
     echo "glpsol is missing (Debian package glpk-utils): no ratio"
 fi
-for file in columns columns_broken sections sections_broken names names_broken again again_broken; do
+for file in {columns,sections,names,again}{,_broken}.mps {terms,long_terms}{,_broken}.lp; do
+    case $file in *.lp) format=--lp ;; *) format=--freemps ;; esac
     ours=1000 theirs=1000
     for _ in $(seq "${RUNS:-3}"); do
-        ours=$(less "$ours" "$(seconds "$program" solve "$folder/$file.mps")")
+        ours=$(less "$ours" "$(seconds "$program" solve "$folder/$file")")
         if command -v glpsol >/dev/null 2>&1; then
-            theirs=$(less "$theirs" "$(seconds glpsol --check --freemps "$folder/$file.mps")")
+            theirs=$(less "$theirs" "$(seconds glpsol --check $format "$folder/$file")")
         fi
     done
-    said=$("$program" solve "$folder/$file.mps" | grep -E '^(refused|answer|needs)' || true)
+    said=$("$program" solve "$folder/$file" | grep -E '^(refused|answer|needs)' || true)
     echo "pami   $file: $ours s ($said)"
     if [ "$theirs" != 1000 ]; then
         echo "glpsol $file: $theirs s, ratio $(awk -v a="$ours" -v b="$theirs" 'BEGIN { printf "%.2f", a / b }')"
