@@ -1,1 +1,11 @@
 pub mod Joined
+pub mod Lists
+pub mod Numbers
+pub mod Dues
+pub mod Pairs
+pub mod Members
+pub mod Bodies
+pub mod Heads
+pub mod Whole
+pub mod Cut
+pub mod PlainLines

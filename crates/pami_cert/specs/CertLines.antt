@@ -3,6 +3,7 @@ use Rattle.std.specs.Prelude.{ℕ, List, [], ◌∷◌, ◌++◌, codes, map}
 use Rattle.pami_algebra.specs.Fraction.{Fraction}
 use Rattle.pami_linear.specs.Lists.{get}
 use Rattle.pami_model.specs.Contents.{Contents}
+use Rattle.pami_lines.specs.Line.{text}
 use Rattle.pami_lines.specs.Certificate.{valued_from, valued_line, optimal_lines, named_lines}
 use Rattle.pami_cert.specs.declared.cert.Cert.{Cert}
 use Rattle.pami_cert.specs.declared.cert.Cert.TheVariants as certs
@@ -34,3 +35,7 @@ cert_lines c (certs.Optimal objective x d r y) = optimal_lines (record {
 cert_lines c (certs.Infeasible y) = head_line (codes "infeasible") ∷ (member_lines c Rows y ++ end_line ∷ [])
 cert_lines c (certs.DualInfeasible x r) =
     head_line (codes "dual-infeasible") ∷ (member_lines c Columns x ++ (member_lines c Rows r ++ end_line ∷ []))
+
+-- what is printed of a certificate
+abbrev pub cert_text : Contents → Cert → List ℕ
+cert_text c cert = text (cert_lines c cert)

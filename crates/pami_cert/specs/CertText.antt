@@ -29,17 +29,17 @@ is_head (a ∷ b ∷ []) = false
 is_head (a ∷ b ∷ c ∷ words) = if bytes_eq a (codes "certificate") then bytes_eq b (codes "1") else false
 
 -- every fraction of a certificate is one that a program can hold
-abbrev pub AllFit : List Fraction → Type 0
-AllFit values = All (λ (v : Fraction). IsTrue (fits v)) values
+abbrev pub Fit : Fraction → Type 0
+Fit v = IsTrue (fits v)
 
 abbrev pub MayFit : Option Fraction → Type 0
 MayFit None = Unit {0}
-MayFit (Some v) = IsTrue (fits v)
+MayFit (Some v) = Fit v
 
 abbrev pub Fits : Cert → Type 0
-Fits (certs.Optimal objective x d r y) = MayFit objective × (AllFit x × (AllFit d × (AllFit r × AllFit y)))
-Fits (certs.Infeasible y) = AllFit y
-Fits (certs.DualInfeasible x r) = AllFit x × AllFit r
+Fits (certs.Optimal objective x d r y) = MayFit objective × (All Fit x × (All Fit d × (All Fit r × All Fit y)))
+Fits (certs.Infeasible y) = All Fit y
+Fits (certs.DualInfeasible x r) = All Fit x × All Fit r
 
 -- the bytes are a text of this certificate for a model with these contents: from the first line that begins a certificate
 -- on, the words of the lines are those that it has; nothing is said of the lines behind

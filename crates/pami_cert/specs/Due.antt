@@ -39,27 +39,29 @@ abbrev pub IsObjective : List ℕ → Type 0
 IsObjective word = (word ≡ codes "wide") ⊎ IsNumber word
 
 -- the line has this first word, this name and so many words behind them
-abbrev pub Names : List ℕ → List ℕ → ℕ → List (List ℕ) → List (List ℕ) → Type 0
-Names first name n words numbers = (length numbers ≡ n) × (words ≡ first ∷ name ∷ numbers)
+abbrev pub IsVariable : List ℕ → List ℕ → ℕ → List (List ℕ) → List (List ℕ) → Type 0
+IsVariable first name n numbers words = (length numbers ≡ n) × (words ≡ first ∷ name ∷ numbers)
 
--- the count of the words and the first of them are as they should be
+-- the count of the words and the first of them are those that are due
 abbrev pub HasShape : Due → List (List ℕ) → Type 0
 HasShape Objective words = (word : List ℕ) × (words ≡ codes "objective" ∷ word ∷ [])
-HasShape (Variable part name n) words = (other : List ℕ) × ((numbers : List (List ℕ)) × Names (tag part) other n words numbers)
+HasShape (Variable part name n) words = (other : List ℕ) × ((numbers : List (List ℕ)) × IsVariable (tag part) other n numbers words)
 HasShape End words = words ≡ end_line
 
--- the line is what is due
+-- and so is the name, where one is due
+abbrev pub HasName : Due → List (List ℕ) → Type 0
+HasName Objective words = HasShape Objective words
+HasName (Variable part name n) words = (numbers : List (List ℕ)) × IsVariable (tag part) name n numbers words
+HasName End words = HasShape End words
+
+-- and the numbers are numbers: the line is what is due
 abbrev pub IsDue : Due → List (List ℕ) → Type 0
 IsDue Objective words = (word : List ℕ) × ((words ≡ codes "objective" ∷ word ∷ []) × IsObjective word)
-IsDue (Variable part name n) words = (numbers : List (List ℕ)) × (Names (tag part) name n words numbers × All IsNumber numbers)
-IsDue End words = words ≡ end_line
+IsDue (Variable part name n) words = (numbers : List (List ℕ)) × (IsVariable (tag part) name n numbers words × All IsNumber numbers)
+IsDue End words = HasShape End words
 
--- what is wrong with it: first the count of words and the first word, then the name, then the numbers
+-- what is wrong with the line: the first of the three that it hasn't
 abbrev pub IsWrong : Due → List (List ℕ) → CertKind → Type 0
-IsWrong d words kinds.Word = ¬ HasShape d words
-IsWrong Objective words kinds.Number = (word : List ℕ) × ((words ≡ codes "objective" ∷ word ∷ []) × (¬ IsObjective word))
-IsWrong (Variable part name n) words kinds.Name =
-    (other : List ℕ) × ((numbers : List (List ℕ)) × (Names (tag part) other n words numbers × (¬ (other ≡ name))))
-IsWrong (Variable part name n) words kinds.Number =
-    (numbers : List (List ℕ)) × (Names (tag part) name n words numbers × (¬ All IsNumber numbers))
-IsWrong d words kind = ⊥
+IsWrong d words kind =
+    ((kind ≡ kinds.Word) × (¬ HasShape d words))
+    ⊎ (((kind ≡ kinds.Name) × (HasShape d words × (¬ HasName d words))) ⊎ ((kind ≡ kinds.Number) × (HasName d words × (¬ IsDue d words))))

@@ -6,6 +6,7 @@
 #![tactic(auto)]
 
 mod cert;
+pub mod laws;
 mod part;
 mod print;
 
