@@ -21,34 +21,19 @@ use Rattle.pami_cert.specs.CertLines.{pair_lines, member_lines, head_line, end_l
 use Rattle.pami_cert.specs.CertText.{Fit, MayFit, Fits}
 use Rattle.pami_cert.specs.Due.{Due, Objective, Variable, End, part_due, due, IsNumber, IsObjective, IsDue}
 use Rattle.pami_cert.specs.FirstFault.{claim_word}
+use Rattle.pami_cert.specs.Read.{Line, ArePairs, AreMembers, claim_of, body, IsBody}
 use Rattle.pami_cert.proofs.Lists.{head_same, tail_same}
 use Rattle.pami_cert.proofs.Numbers.{printed_of_one, number_not_wide}
-use Rattle.pami_cert.proofs.Dues.{Line, Passed, passed_more}
-use Rattle.pami_cert.proofs.Pairs.{pairs, ArePairs, IsPairs, pairs_valued, pairs_passed, passed_pairs, pairs_of_one}
-use Rattle.pami_cert.proofs.Members.{members, AreMembers, IsMembers, members_named, members_passed, passed_members, members_of_one}
+use Rattle.pami_cert.proofs.Dues.{Passed, passed_more}
+use Rattle.pami_cert.proofs.Pairs.{pairs, IsPairs, pairs_valued, pairs_passed, passed_pairs, pairs_of_one}
+use Rattle.pami_cert.proofs.Members.{members, IsMembers, members_named, members_passed, passed_members, members_of_one}
 
 -- ---- a certificate's first line and the others
-
-abbrev pub claim_of : Cert → Claim
-claim_of (certs.Optimal o x d r y) = claims.Optimal
-claim_of (certs.Infeasible y) = claims.Infeasible
-claim_of (certs.DualInfeasible x r) = claims.DualInfeasible
-
-abbrev pub body : Contents → Cert → List Line
-body c (certs.Optimal o x d r y) = (codes "objective" ∷ objective_word o ∷ []) ∷ (pair_lines c Columns x d ++ (pair_lines c Rows r y ++ end_line ∷ []))
-body c (certs.Infeasible y) = member_lines c Rows y ++ end_line ∷ []
-body c (certs.DualInfeasible x r) = member_lines c Columns x ++ (member_lines c Rows r ++ end_line ∷ [])
 
 pub lines_of_body : (c : Contents) (cert : Cert) → cert_lines c cert ≡ head_line (claim_word (claim_of cert)) ∷ body c cert
 lines_of_body c (certs.Optimal o x d r y) = refl
 lines_of_body c (certs.Infeasible y) = refl
 lines_of_body c (certs.DualInfeasible x r) = refl
-
--- the lines begin with those behind the first one of a certificate, and these are left
-pub record IsBody (c : Contents) (lines rest : List Line) (cert : Cert) : Type 0 where
-  pub sized : IsSized c cert
-  pub numbers : Fits cert
-  pub lines_are : lines ≡ body c cert ++ rest
 
 -- ---- sizes by names
 
@@ -194,10 +179,8 @@ told : (w : List ℕ) → IsObjective w → (o : Option Fraction) × (MayFit o �
 told w (inl e) = (None, (tt, e))
 told w (inr h) = (Some h.0, (h.1.0, h.1.1))
 
-abbrev HasBody : Contents → Claim → (lines rest : List Line) → Type 0
-HasBody c claim lines rest = (cert : Cert) × ((claim_of cert ≡ claim) × IsBody c lines rest cert)
-
-pub passed_body : (c : Contents) (claim : Claim) (lines rest : List Line) → Passed (due c claim) lines rest → HasBody c claim lines rest
+pub passed_body : (c : Contents) (claim : Claim) (lines rest : List Line) → Passed (due c claim) lines rest →
+    (cert : Cert) × ((claim_of cert ≡ claim) × IsBody c lines rest cert)
 passed_body c claims.Optimal [] rest h = absurd h
 passed_body c claims.Optimal (w ∷ lines) rest h =
     let o = told h.0.0 h.0.1.1 in

@@ -10,13 +10,11 @@ use Rattle.pami_cert.specs.Part.{tag}
 use Rattle.pami_cert.specs.CertLines.{end_line}
 use Rattle.pami_cert.specs.Due.{Due, Objective, Variable, End, IsNumber, IsObjective, IsVariable, HasShape, HasName, IsDue, IsWrong}
 use Rattle.pami_cert.specs.FirstFault.{fault_at, FirstWrong}
+use Rattle.pami_cert.specs.Read.{Line}
 use Rattle.pami_cert.proofs.Lists.{head_same, tail_same, all_nil, all_head, all_tail, all_more, same_or_not}
 use Rattle.pami_cert.proofs.Numbers.{number_or_not}
 
 -- ---- one line
-
-abbrev pub Line : Type 0
-Line = List (List ℕ)
 
 due_named : (d : Due) (words : Line) → IsDue d words → HasName d words
 due_named Objective words h = (h.0, h.1.0)

@@ -10,18 +10,10 @@ use Rattle.pami_cert.specs.CertLines.{head_line}
 use Rattle.pami_cert.specs.CertText.{is_head}
 use Rattle.pami_cert.specs.Due.{due}
 use Rattle.pami_cert.specs.FirstFault.{claim_word, fault_at, FirstWrong, WrongFrom, FaultFrom}
+use Rattle.pami_cert.specs.Read.{Line, IsPlainLine, HasHead}
 use Rattle.pami_cert.proofs.Lists.{head_same, tail_same, all_nil, all_head, all_tail, all_more, same_or_not}
-use Rattle.pami_cert.proofs.Dues.{Line, Passed, one_wrong}
+use Rattle.pami_cert.proofs.Dues.{one_wrong}
 use Rattle.pami_cert.proofs.Bodies.{head_of_one}
-
-abbrev pub IsPlainLine : Line → Type 0
-IsPlainLine words = is_head words ≡ false
-
--- these lines stand before the first one that begins a certificate, and the rest behind it
-pub record HasHead (lines before : List Line) (words : Line) (rest : List Line) : Type 0 where
-  pub lines_are : lines ≡ before ++ words ∷ rest
-  pub skipped : All IsPlainLine before
-  pub head : is_head words ≡ true
 
 -- ---- there is one or none
 

@@ -9,3 +9,5 @@ pub mod Heads
 pub mod Whole
 pub mod Cut
 pub mod PlainLines
+pub mod FirstWord
+pub mod Judged

@@ -11,20 +11,16 @@ use Rattle.pami_cert.specs.declared.part.Part.{Part}
 use Rattle.pami_cert.specs.Part.{tag}
 use Rattle.pami_cert.specs.CertText.{Fit}
 use Rattle.pami_cert.specs.Due.{Due, Variable, IsNumber}
+use Rattle.pami_cert.specs.Read.{Line, AreMembers}
 use Rattle.pami_cert.proofs.Lists.{head_same, tail_same, all_nil, all_head, all_tail, all_more}
 use Rattle.pami_cert.proofs.Numbers.{printed_of_one}
-use Rattle.pami_cert.proofs.Dues.{Line, Passed}
+use Rattle.pami_cert.proofs.Dues.{Passed}
 
 -- the lines of these names with these numbers, list beside list
 abbrev pub members : List ℕ → List (List ℕ) → List Fraction → List Line
 members t [] xs = []
 members t (n ∷ ns) [] = []
 members t (n ∷ ns) (x ∷ xs) = (t ∷ n ∷ printed x ∷ []) ∷ members t ns xs
-
--- one number for each name, all of which fit
-pub record AreMembers (count : ℕ) (xs : List Fraction) : Type 0 where
-  pub numbers : length xs ≡ count
-  pub fit : All Fit xs
 
 -- the lines begin with those of these numbers, and these are left
 pub record IsMembers (t : List ℕ) (ns : List (List ℕ)) (lines rest : List Line) (xs : List Fraction) : Type 0 where

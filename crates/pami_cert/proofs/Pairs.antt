@@ -11,9 +11,10 @@ use Rattle.pami_cert.specs.declared.part.Part.{Part}
 use Rattle.pami_cert.specs.Part.{tag}
 use Rattle.pami_cert.specs.CertText.{Fit}
 use Rattle.pami_cert.specs.Due.{Due, Variable, IsNumber}
+use Rattle.pami_cert.specs.Read.{Line, ArePairs}
 use Rattle.pami_cert.proofs.Lists.{head_same, tail_same, all_nil, all_head, all_tail, all_more}
 use Rattle.pami_cert.proofs.Numbers.{printed_of_one}
-use Rattle.pami_cert.proofs.Dues.{Line, Passed}
+use Rattle.pami_cert.proofs.Dues.{Passed}
 
 -- the lines of these names with these numbers, list beside list
 abbrev pub pairs : List ℕ → List (List ℕ) → List Fraction → List Fraction → List Line
@@ -21,13 +22,6 @@ pairs t [] xs ds = []
 pairs t (n ∷ ns) [] ds = []
 pairs t (n ∷ ns) (x ∷ xs) [] = []
 pairs t (n ∷ ns) (x ∷ xs) (d ∷ ds) = (t ∷ n ∷ printed x ∷ printed d ∷ []) ∷ pairs t ns xs ds
-
--- one number of each list for each name, all of which fit
-pub record ArePairs (count : ℕ) (xs ds : List Fraction) : Type 0 where
-  pub firsts : length xs ≡ count
-  pub seconds : length ds ≡ count
-  pub firsts_fit : All Fit xs
-  pub seconds_fit : All Fit ds
 
 -- the lines begin with those of these numbers, and these are left
 pub record IsPairs (t : List ℕ) (ns : List (List ℕ)) (lines rest : List Line) (xs ds : List Fraction) : Type 0 where

@@ -23,10 +23,11 @@ use Rattle.pami_cert.specs.Part.{tag, names}
 use Rattle.pami_cert.specs.CertLines.{pair_lines, member_lines, end_line, cert_lines, cert_text}
 use Rattle.pami_cert.specs.CertText.{lines_in, Fit, MayFit, IsCertText}
 use Rattle.pami_cert.specs.Plain.{IsPlainByte, IsPlain, ArePlain, HasPlainNames, IsPrintable}
+use Rattle.pami_cert.specs.Read.{ArePairs, AreMembers}
 use Rattle.pami_cert.proofs.Lists.{all_nil, all_head, all_tail}
 use Rattle.pami_cert.proofs.Cut.{Lines, lines_more, text_cut}
-use Rattle.pami_cert.proofs.Pairs.{pairs, ArePairs, pairs_valued}
-use Rattle.pami_cert.proofs.Members.{members, AreMembers, members_named}
+use Rattle.pami_cert.proofs.Pairs.{pairs, pairs_valued}
+use Rattle.pami_cert.proofs.Members.{members, members_named}
 use Rattle.pami_cert.proofs.Bodies.{pairs_in, rows_in, columns_in}
 
 plain_more : (xs ys : List ℕ) → IsPlain xs → IsPlain ys → IsPlain (xs ++ ys)

@@ -13,10 +13,11 @@ use Rattle.pami_cert.specs.CertLines.{head_line, cert_lines}
 use Rattle.pami_cert.specs.CertText.{is_head, lines_in, IsCertText}
 use Rattle.pami_cert.specs.Due.{due}
 use Rattle.pami_cert.specs.FirstFault.{claim_word, fault_at, FirstWrong, WrongFrom, FaultFrom, FirstFault}
+use Rattle.pami_cert.specs.Read.{Line, claim_of, body, IsBody, IsPlainLine, HasHead}
 use Rattle.pami_cert.proofs.Lists.{head_same, tail_same}
-use Rattle.pami_cert.proofs.Dues.{Line, Passed, passed_or_wrong, passed_not_wrong}
-use Rattle.pami_cert.proofs.Bodies.{claim_of, body, lines_of_body, IsBody, body_passed, passed_body, head_of_one, body_of_one}
-use Rattle.pami_cert.proofs.Heads.{IsPlainLine, HasHead, head_or_none, one_head, fault_at_head, wrong_at_head, absent, one_fault_from, claim_or_not}
+use Rattle.pami_cert.proofs.Dues.{Passed, passed_or_wrong, passed_not_wrong}
+use Rattle.pami_cert.proofs.Bodies.{lines_of_body, body_passed, passed_body, head_of_one, body_of_one}
+use Rattle.pami_cert.proofs.Heads.{head_or_none, one_head, fault_at_head, wrong_at_head, absent, one_fault_from, claim_or_not}
 
 claimed : (claim : Claim) → is_head (head_line (claim_word claim)) ≡ true
 claimed claims.Optimal = refl

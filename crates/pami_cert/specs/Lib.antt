@@ -6,3 +6,4 @@ pub mod Due
 pub mod FirstFault
 pub mod KindWords
 pub mod Plain
+pub mod Read

@@ -6,9 +6,11 @@
 #![tactic(auto)]
 
 mod cert;
+mod judge;
 pub mod laws;
 mod part;
 mod print;
+mod words;
 
 pub use cert::{Cert, CertFault, CertKind, Claim};
 pub use print::print_cert;
