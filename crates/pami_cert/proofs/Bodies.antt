@@ -1,10 +1,9 @@
 -- The lines behind the first one of a certificate are what is due, and what is due are those lines of one certificate.
-use Rattle.std.proofs.Common.{◌≡◌, ℕ, ◌+◌, Bool, true, false, List, [], ◌∷◌, ◌++◌, length, map, codes, refl, sym, ap, ◌∙◌, subst, arith, append_assoc, ◌⊎◌, inl, inr, ⊎_elim, Option, None, Some, true≢false}
+use Rattle.std.proofs.Common.{◌≡◌, ℕ, List, [], ◌∷◌, ◌++◌, length, codes, refl, sym, ap, ◌∙◌, subst, append_assoc, inl, inr, Option, None, Some, true≢false}
 use Rattle.std.specs.List.{All}
 use Rattle.std.specs.Str.{bytes_eq}
 use Rattle.std.proofs.lemmas.List.{length-map}
 use Rattle.pami_algebra.specs.Fraction.{Fraction}
-use Rattle.pami_frac.specs.Printed.{printed}
 use Rattle.pami_lines.specs.Certificate.{objective_word}
 use Rattle.pami_model.specs.declared.list.Row.{Row}
 use Rattle.pami_model.specs.declared.list.Column.{Column}
@@ -13,13 +12,12 @@ use Rattle.pami_cert.specs.declared.cert.Cert.{Cert}
 use Rattle.pami_cert.specs.declared.cert.Cert.TheVariants as certs
 use Rattle.pami_cert.specs.declared.cert.Claim.{Claim}
 use Rattle.pami_cert.specs.declared.cert.Claim.TheVariants as claims
-use Rattle.pami_cert.specs.declared.part.Part.{Part}
 use Rattle.pami_cert.specs.declared.part.Part.TheVariants.{Columns, Rows}
 use Rattle.pami_cert.specs.Part.{tag, names}
-use Rattle.pami_cert.specs.Sized.{AreSized, IsSized}
+use Rattle.pami_cert.specs.Sized.{AreSized}
 use Rattle.pami_cert.specs.CertLines.{pair_lines, member_lines, head_line, end_line, cert_lines}
-use Rattle.pami_cert.specs.CertText.{Fit, MayFit, Fits}
-use Rattle.pami_cert.specs.Due.{Due, Objective, Variable, End, part_due, due, IsNumber, IsObjective, IsDue}
+use Rattle.pami_cert.specs.CertText.{Fit, MayFit}
+use Rattle.pami_cert.specs.Due.{Due, End, part_due, due, IsObjective}
 use Rattle.pami_cert.specs.FirstFault.{claim_word}
 use Rattle.pami_cert.specs.Read.{Line, ArePairs, AreMembers, claim_of, body, IsBody}
 use Rattle.pami_cert.proofs.Lists.{head_same, tail_same}
@@ -56,7 +54,8 @@ rows_in c y s f = record { numbers = s ∙ sym (row_count c); fit = f }
 pub columns_in : (c : Contents) (x : List Fraction) → length x ≡ length c.columns → All Fit x → AreMembers (length (names c Columns)) x
 columns_in c x s f = record { numbers = s ∙ sym (column_count c); fit = f }
 
-pub sized_pairs : (c : Contents) (x d r y : List Fraction) → ArePairs (length (names c Columns)) x d → ArePairs (length (names c Rows)) r y → AreSized c x r × AreSized c d y
+pub sized_pairs : (c : Contents) (x d r y : List Fraction) → ArePairs (length (names c Columns)) x d → ArePairs (length (names c Rows)) r y →
+    AreSized c x r × AreSized c d y
 sized_pairs c x d r y h k = (
   record { columns = h.firsts ∙ column_count c; rows = k.firsts ∙ row_count c },
   record { columns = h.seconds ∙ column_count c; rows = k.seconds ∙ row_count c },
@@ -76,7 +75,8 @@ best_by c word x d r y rest =
     (codes "objective" ∷ word ∷ []) ∷ (pairs (tag Columns) (names c Columns) x d ++ (pairs (tag Rows) (names c Rows) r y ++ end_line ∷ rest))
 
 best_is : (c : Contents) (o : Option Fraction) (x d r y : List Fraction) (rest : List Line) →
-    ArePairs (length (names c Columns)) x d → ArePairs (length (names c Rows)) r y → body c (certs.Optimal o x d r y) ++ rest ≡ best_by c (objective_word o) x d r y rest
+    ArePairs (length (names c Columns)) x d → ArePairs (length (names c Rows)) r y → body c (certs.Optimal o x d r y) ++ rest ≡ best_by c (objective_word o) x
+    d r y rest
 best_is c o x d r y rest h k =
     let front : Line = codes "objective" ∷ objective_word o ∷ [] in
     ap (λ ls. front ∷ ls)
@@ -132,7 +132,7 @@ direction_body c x r lines rows rest h k = record {
 end_passed : (rest : List Line) → Passed (End ∷ []) (end_line ∷ rest) rest
 end_passed rest = (refl, refl)
 
-objective_due : (o : Option Fraction) → MayFit o → IsObjective (objective_word o)
+pub objective_due : (o : Option Fraction) → MayFit o → IsObjective (objective_word o)
 objective_due None h = inl refl
 objective_due (Some v) h = inr (v, (h, refl))
 
@@ -247,19 +247,25 @@ body_of_one c (certs.Optimal o x d r y) (certs.Optimal p x' d' r' y') lines rest
     let same = sym (h.lines_are ∙ best_is c o x d r y rest one.0 one.1) ∙ (k.lines_are ∙ best_is c p x' d' r' y' other two.0 two.1) in
     let first = pairs_of_one (tag Columns) (names c Columns) rows rows' x d x' d' one.0 two.0 (tail_same same) in
     let second = pairs_of_one (tag Rows) (names c Rows) (end_line ∷ rest) (end_line ∷ other) r y r' y' one.1 two.1 first.1.1 in
-    best_of_one o p x d r y x' d' r' y' (objective_of_one o p h.numbers.0 k.numbers.0 (head_same (tail_same (head_same same)))) first.0 first.1.0 second.0 second.1.0
-body_of_one c (certs.Optimal o x d r y) (certs.Infeasible y') lines rest other e h k = absurd (true≢false (ap (λ z. bytes_eq (codes "optimal") (claim_word z)) e))
-body_of_one c (certs.Optimal o x d r y) (certs.DualInfeasible x' r') lines rest other e h k = absurd (true≢false (ap (λ z. bytes_eq (codes "optimal") (claim_word z)) e))
-body_of_one c (certs.Infeasible y) (certs.Optimal o x d r y') lines rest other e h k = absurd (true≢false (ap (λ z. bytes_eq (codes "infeasible") (claim_word z)) e))
+    best_of_one o p x d r y x' d' r' y' (objective_of_one o p h.numbers.0 k.numbers.0 (head_same (tail_same (head_same same)))) first.0 first.1.0 second.0
+    second.1.0
+body_of_one c (certs.Optimal o x d r y) (certs.Infeasible y') lines rest other e h k = absurd
+    (true≢false (ap (λ z. bytes_eq (codes "optimal") (claim_word z)) e))
+body_of_one c (certs.Optimal o x d r y) (certs.DualInfeasible x' r') lines rest other e h k = absurd
+    (true≢false (ap (λ z. bytes_eq (codes "optimal") (claim_word z)) e))
+body_of_one c (certs.Infeasible y) (certs.Optimal o x d r y') lines rest other e h k = absurd
+    (true≢false (ap (λ z. bytes_eq (codes "infeasible") (claim_word z)) e))
 body_of_one c (certs.Infeasible y) (certs.Infeasible y') lines rest other e h k =
     let one = rows_in c y h.sized h.numbers in
     let two = rows_in c y' k.sized k.numbers in
     let same = sym (h.lines_are ∙ infeasible_is c y rest one) ∙ (k.lines_are ∙ infeasible_is c y' other two) in
     ap certs.Infeasible (members_of_one (tag Rows) (names c Rows) (end_line ∷ rest) (end_line ∷ other) y y' one two same).0
-body_of_one c (certs.Infeasible y) (certs.DualInfeasible x' r') lines rest other e h k = absurd (true≢false (ap (λ z. bytes_eq (codes "infeasible") (claim_word z)) e))
+body_of_one c (certs.Infeasible y) (certs.DualInfeasible x' r') lines rest other e h k = absurd
+    (true≢false (ap (λ z. bytes_eq (codes "infeasible") (claim_word z)) e))
 body_of_one c (certs.DualInfeasible x r) (certs.Optimal o x' d r' y) lines rest other e h k =
     absurd (true≢false (ap (λ z. bytes_eq (codes "dual-infeasible") (claim_word z)) e))
-body_of_one c (certs.DualInfeasible x r) (certs.Infeasible y) lines rest other e h k = absurd (true≢false (ap (λ z. bytes_eq (codes "dual-infeasible") (claim_word z)) e))
+body_of_one c (certs.DualInfeasible x r) (certs.Infeasible y) lines rest other e h k = absurd
+    (true≢false (ap (λ z. bytes_eq (codes "dual-infeasible") (claim_word z)) e))
 body_of_one c (certs.DualInfeasible x r) (certs.DualInfeasible x' r') lines rest other e h k =
     let one = columns_in c x h.sized.columns h.numbers.0 in
     let two = columns_in c x' k.sized.columns k.numbers.0 in

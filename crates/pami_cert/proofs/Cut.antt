@@ -61,7 +61,8 @@ first_line [] more h = refl
 first_line (x ∷ xs) more h = byte_hangs x (xs ++ 10 ∷ more) h.0.0 h.0.1 ∙ ap (hang x) (first_line xs more h.1)
 
 one_line : (ws : List (List ℕ)) (more : List ℕ) → ArePlain ws → lines_of (line ws ++ more) ≡ joined ws ∷ lines_of more
-one_line ws more h = ap (λ z. lines_of (z ++ more)) (line_is ws) ∙ ap lines_of (append_assoc (joined ws) (10 ∷ []) more) ∙ first_line (joined ws) more (joined_line ws h)
+one_line ws more h = ap (λ z. lines_of (z ++ more)) (line_is ws) ∙ ap lines_of (append_assoc (joined ws) (10 ∷ []) more)
+    ∙ first_line (joined ws) more (joined_line ws h)
 
 -- ---- whole texts: lines of at least one word, all of them plain
 abbrev pub Words : List (List ℕ) → Type 0

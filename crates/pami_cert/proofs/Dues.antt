@@ -1,13 +1,11 @@
 -- A line is what is due or wrong in one way, and lines that are due, one after another, or go wrong in one place.
-use Rattle.std.proofs.Common.{◌≡◌, ℕ, zero, suc, ◌+◌, List, [], ◌∷◌, ◌++◌, length, codes, refl, sym, ap, ◌∙◌, subst, arith, ◌⊎◌, inl, inr, ⊎_elim, add-suc, add-zero}
+use Rattle.std.proofs.Common.{◌≡◌, ℕ, suc, ◌+◌, List, [], ◌∷◌, ◌++◌, length, codes, refl, sym, ap, ◌∙◌, subst, arith, ◌⊎◌, inl, inr, ⊎_elim, add-zero}
 use Rattle.std.specs.List.{All}
 use Rattle.std.proofs.lemmas.Bool.Decides.{eqb_tells}
-use Rattle.pami_cert.specs.declared.part.Part.{Part}
 use Rattle.pami_cert.specs.declared.cert.CertKind.{CertKind}
 use Rattle.pami_cert.specs.declared.cert.CertKind.TheVariants as kinds
 use Rattle.pami_cert.specs.declared.cert.CertFault.{CertFault}
 use Rattle.pami_cert.specs.Part.{tag}
-use Rattle.pami_cert.specs.CertLines.{end_line}
 use Rattle.pami_cert.specs.Due.{Due, Objective, Variable, End, IsNumber, IsObjective, IsVariable, HasShape, HasName, IsDue, IsWrong}
 use Rattle.pami_cert.specs.FirstFault.{fault_at, FirstWrong}
 use Rattle.pami_cert.specs.Read.{Line}
@@ -137,7 +135,8 @@ wrong_front (d ∷ ds) es at [] f h = h
 wrong_front (d ∷ ds) es at (w ∷ lines) f (inl h) = inl h
 wrong_front (d ∷ ds) es at (w ∷ lines) f (inr h) = inr (h.0, wrong_front ds es (suc at) lines f h.1)
 
-pub wrong_behind : (ds es : List Due) (at next : ℕ) (lines mid : List Line) (f : CertFault) → next ≡ at + length ds → Passed ds lines mid → FirstWrong es next mid f → FirstWrong (ds ++ es) at lines f
+pub wrong_behind : (ds es : List Due) (at next : ℕ) (lines mid : List Line) (f : CertFault) → next ≡ at + length ds → Passed ds lines mid →
+    FirstWrong es next mid f → FirstWrong (ds ++ es) at lines f
 wrong_behind [] es at next lines mid f n h k =
     let e : next ≡ at = n ∙ add-zero at in
     subst (λ z. FirstWrong es at z f) (sym h) (subst (λ m. FirstWrong es m mid f) e k)

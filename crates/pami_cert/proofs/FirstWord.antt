@@ -1,5 +1,5 @@
 -- One word off the front of a line.
-use Rattle.std.proofs.Common.{◌≡◌, ◌≢◌, ℕ, zero, suc, ◌+◌, ◌<◌, ◌≤◌, Bool, true, false, List, [], ◌∷◌, length, take, drop, get_or, refl, ap, sym, ◌∙◌, arith, if◌then◌else◌, nat_eq, codes}
+use Rattle.std.proofs.Common.{◌≡◌, ◌≢◌, ℕ, zero, suc, ◌+◌, ◌<◌, Bool, true, false, List, [], ◌∷◌, length, take, drop, get_or, refl, ap, sym, ◌∙◌, arith, if◌then◌else◌, nat_eq, codes}
 use Rattle.pami_edge.specs.Lines.{hang}
 use Rattle.std.specs.Str.{bytes_eq}
 use Rattle.pami_cert.specs.CertText.{is_head, words_of}

@@ -1,5 +1,5 @@
 -- The first line that begins a certificate, and what follows from it.
-use Rattle.std.proofs.Common.{◌≡◌, ℕ, zero, suc, ◌+◌, Bool, true, false, List, [], ◌∷◌, ◌++◌, length, codes, refl, sym, ap, ◌∙◌, subst, arith, ◌⊎◌, inl, inr, ⊎_elim, true≢false, add-zero}
+use Rattle.std.proofs.Common.{◌≡◌, ℕ, suc, ◌+◌, Bool, true, false, List, [], ◌∷◌, ◌++◌, length, codes, refl, sym, ap, ◌∙◌, subst, arith, ◌⊎◌, inl, inr, true≢false, add-zero}
 use Rattle.std.specs.List.{All}
 use Rattle.pami_model.specs.Contents.{Contents}
 use Rattle.pami_cert.specs.declared.cert.CertFault.{CertFault}
@@ -30,7 +30,8 @@ head_or_none (w ∷ lines) = go (is_head w) refl (head_or_none lines)
         inl (w ∷ h.0, (h.1.0, (h.1.1.0, record { lines_are = ap (λ ls. w ∷ ls) k.lines_are; skipped = all_more IsPlainLine w h.0 e k.skipped; head = k.head })))
     go false e (inr h) = inr (all_more IsPlainLine w lines e h)
 
-behind_one : (before other : List Line) (w v : Line) (rest more : List Line) → All IsPlainLine before → All IsPlainLine other → is_head w ≡ true → is_head v ≡ true →
+behind_one : (before other : List Line) (w v : Line) (rest more : List Line) → All IsPlainLine before → All IsPlainLine other → is_head w ≡ true →
+    is_head v ≡ true →
     before ++ w ∷ rest ≡ other ++ v ∷ more → w ∷ rest ≡ v ∷ more
 behind_one [] [] w v rest more h k e f g = g
 behind_one [] (y ∷ other) w v rest more h k e f g = absurd (true≢false (sym e ∙ ap is_head (head_same g) ∙ all_head IsPlainLine y other k))
@@ -38,7 +39,8 @@ behind_one (x ∷ before) [] w v rest more h k e f g = absurd (true≢false (sym
 behind_one (x ∷ before) (y ∷ other) w v rest more h k e f g =
     behind_one before other w v rest more (all_tail IsPlainLine x before h) (all_tail IsPlainLine y other k) e f (tail_same g)
 
-pub one_head : (lines before other : List Line) (w v : Line) (rest more : List Line) → HasHead lines before w rest → HasHead lines other v more → w ∷ rest ≡ v ∷ more
+pub one_head : (lines before other : List Line) (w v : Line) (rest more : List Line) → HasHead lines before w rest → HasHead lines other v more →
+    w ∷ rest ≡ v ∷ more
 one_head lines before other w v rest more h k =
     behind_one before other w v rest more h.skipped k.skipped h.head k.head (sym h.lines_are ∙ k.lines_are)
 
@@ -69,9 +71,14 @@ wrong_at_head c at lines before w rest f h k = to_head c at before w rest f h.sk
 pub absent : (c : Contents) (at : ℕ) (lines : List Line) → All IsPlainLine lines → FaultFrom c at lines (fault_at (at + length lines) kinds.Absent)
 absent c at [] h = ap (λ n. fault_at n kinds.Absent) (add-zero at)
 absent c at (x ∷ lines) h = let n : suc at + length lines ≡ at + suc (length lines) = omega arith in
-    inl (all_head IsPlainLine x lines h, subst (λ m. FaultFrom c (suc at) lines (fault_at m kinds.Absent)) n (absent c (suc at) lines (all_tail IsPlainLine x lines h)))
+    inl (
+      all_head IsPlainLine x lines h,
+      subst (λ m. FaultFrom c (suc at) lines (fault_at m kinds.Absent)) n
+          (absent c (suc at) lines (all_tail IsPlainLine x lines h)),
+    )
 
-absent_only : (c : Contents) (at : ℕ) (lines : List Line) (f : CertFault) → All IsPlainLine lines → FaultFrom c at lines f → f ≡ fault_at (at + length lines) kinds.Absent
+absent_only : (c : Contents) (at : ℕ) (lines : List Line) (f : CertFault) → All IsPlainLine lines → FaultFrom c at lines f →
+    f ≡ fault_at (at + length lines) kinds.Absent
 absent_only c at [] f h k = k ∙ ap (λ n. fault_at n kinds.Absent) (sym (add-zero at))
 absent_only c at (x ∷ lines) f h (inl k) = let n : suc at + length lines ≡ at + suc (length lines) = omega arith in
     absent_only c (suc at) lines f (all_tail IsPlainLine x lines h) k.1 ∙ ap (λ m. fault_at m kinds.Absent) n
@@ -91,7 +98,8 @@ one_fault_from c at lines f g h k = go (head_or_none lines)
   where
     go : Heads lines ⊎ All IsPlainLine lines → f ≡ g
     go (inl p) = let q = p.1.1.1 in
-        one_wrong_from c (at + length p.0) p.1.0 p.1.1.0 f g (wrong_at_head c at lines p.0 p.1.0 p.1.1.0 f q h) (wrong_at_head c at lines p.0 p.1.0 p.1.1.0 g q k)
+        one_wrong_from c (at + length p.0) p.1.0 p.1.1.0 f g (wrong_at_head c at lines p.0 p.1.0 p.1.1.0 f q h)
+        (wrong_at_head c at lines p.0 p.1.0 p.1.1.0 g q k)
     go (inr p) = absent_only c at lines f p h ∙ sym (absent_only c at lines g p k)
 
 -- ---- a known claim or not
@@ -119,7 +127,8 @@ claim_or_not w = go (is claims.Optimal) (is claims.Infeasible) (is claims.DualIn
     none a b d claims.Infeasible = b
     none a b d claims.DualInfeasible = d
 
-    go : (w ≡ head_line (codes "optimal")) ⊎ (¬ (w ≡ head_line (codes "optimal"))) → (w ≡ head_line (codes "infeasible")) ⊎ (¬ (w ≡ head_line (codes "infeasible"))) →
+    go : (w ≡ head_line (codes "optimal")) ⊎ (¬ (w ≡ head_line (codes "optimal"))) →
+        (w ≡ head_line (codes "infeasible")) ⊎ (¬ (w ≡ head_line (codes "infeasible"))) →
         (w ≡ head_line (codes "dual-infeasible")) ⊎ (¬ (w ≡ head_line (codes "dual-infeasible"))) →
         ((claim : Claim) × (w ≡ head_line (claim_word claim))) ⊎ ((claim : Claim) → ¬ (w ≡ head_line (claim_word claim)))
     go (inl e) b d = inl (claims.Optimal, e)

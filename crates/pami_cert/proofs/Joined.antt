@@ -4,18 +4,23 @@ use Rattle.pami_lines.specs.Line.{line, text}
 use Rattle.pami_lines.proofs.Texts.{text_append}
 
 pub text_of_two : (columns rows : List (List (List ℕ))) → text (columns ++ (rows ++ (codes "end" ∷ []) ∷ [])) ≡ text columns ++ (text rows ++ codes "end\n")
-text_of_two columns rows = text_append columns (rows ++ (codes "end" ∷ []) ∷ []) ∙ ap (λ (z : List ℕ). text columns ++ z) (text_append rows ((codes "end" ∷ []) ∷ []))
+text_of_two columns rows = text_append columns (rows ++ (codes "end" ∷ []) ∷ [])
+    ∙ ap (λ (z : List ℕ). text columns ++ z) (text_append rows ((codes "end" ∷ []) ∷ []))
 
-pub optimal_joined : (o a b c d e r word : List ℕ) (columns rows : List (List (List ℕ))) → a ≡ o ++ codes "certificate 1 optimal\nobjective " → b ≡ a ++ word → c ≡ b ++ 10 ∷ [] → d ≡ c ++ text columns → e ≡ d ++ text rows → r ≡ e ++ codes "end\n" →
+pub optimal_joined : (o a b c d e r word : List ℕ) (columns rows : List (List (List ℕ))) → a ≡ o ++ codes "certificate 1 optimal\nobjective " →
+    b ≡ a ++ word → c ≡ b ++ 10 ∷ [] → d ≡ c ++ text columns → e ≡ d ++ text rows → r ≡ e ++ codes "end\n" →
     r ≡ o ++ text ((codes "certificate" ∷ codes "1" ∷ codes "optimal" ∷ []) ∷ (codes "objective" ∷ word ∷ []) ∷ (columns ++ (rows ++ (codes "end" ∷ []) ∷ [])))
 optimal_joined o a b c d e r word columns rows h i j k l m =
     let front : List ℕ = codes "certificate 1 optimal\nobjective " in
     let all : r ≡ o ++ (front ++ (word ++ (10 ∷ (text columns ++ (text rows ++ codes "end\n"))))) = simp (m, l, k, j, i, h, append_assoc) in
-    let inner : front ++ (word ++ (10 ∷ (text columns ++ (text rows ++ codes "end\n")))) ≡ front ++ ((word ++ 10 ∷ []) ++ text (columns ++ (rows ++ (codes "end" ∷ []) ∷ []))) =
-    ap (λ (z : List ℕ). front ++ z) (ap (λ (z : List ℕ). word ++ (10 ∷ z)) (sym (text_of_two columns rows)) ∙ sym (append_assoc word (10 ∷ []) (text (columns ++ (rows ++ (codes "end" ∷ []) ∷ []))))) in
+    let inner : front ++ (word ++ (10 ∷ (text columns ++ (text rows ++ codes "end\n")))) ≡ front ++ ((word ++ 10 ∷ []) ++ text
+    (columns ++ (rows ++ (codes "end" ∷ []) ∷ []))) =
+    ap (λ (z : List ℕ). front ++ z) (ap (λ (z : List ℕ). word ++ (10 ∷ z)) (sym (text_of_two columns rows))
+    ∙ sym (append_assoc word (10 ∷ []) (text (columns ++ (rows ++ (codes "end" ∷ []) ∷ []))))) in
     all ∙ ap (λ (z : List ℕ). o ++ z) inner
 
-pub infeasible_joined : (o a b r : List ℕ) (rows : List (List (List ℕ))) → a ≡ o ++ codes "certificate 1 infeasible\n" → b ≡ a ++ text rows → r ≡ b ++ codes "end\n" →
+pub infeasible_joined : (o a b r : List ℕ) (rows : List (List (List ℕ))) → a ≡ o ++ codes "certificate 1 infeasible\n" → b ≡ a ++ text rows →
+    r ≡ b ++ codes "end\n" →
     r ≡ o ++ text ((codes "certificate" ∷ codes "1" ∷ codes "infeasible" ∷ []) ∷ (rows ++ (codes "end" ∷ []) ∷ []))
 infeasible_joined o a b r rows h i j =
     let front : List ℕ = codes "certificate 1 infeasible\n" in
@@ -24,7 +29,8 @@ infeasible_joined o a b r rows h i j =
     ∙ append_assoc o front (text rows ++ codes "end\n")
     ∙ ap (λ (z : List ℕ). o ++ (front ++ z)) (sym (text_append rows ((codes "end" ∷ []) ∷ [])))
 
-pub dual_infeasible_joined : (o a b c r : List ℕ) (columns rows : List (List (List ℕ))) → a ≡ o ++ codes "certificate 1 dual-infeasible\n" → b ≡ a ++ text columns → c ≡ b ++ text rows → r ≡ c ++ codes "end\n" →
+pub dual_infeasible_joined : (o a b c r : List ℕ) (columns rows : List (List (List ℕ))) → a ≡ o ++ codes "certificate 1 dual-infeasible\n" →
+    b ≡ a ++ text columns → c ≡ b ++ text rows → r ≡ c ++ codes "end\n" →
     r ≡ o ++ text ((codes "certificate" ∷ codes "1" ∷ codes "dual-infeasible" ∷ []) ∷ (columns ++ (rows ++ (codes "end" ∷ []) ∷ [])))
 dual_infeasible_joined o a b c r columns rows h i j k =
     let front : List ℕ = codes "certificate 1 dual-infeasible\n" in

@@ -11,3 +11,7 @@ pub mod Cut
 pub mod PlainLines
 pub mod FirstWord
 pub mod Judged
+pub mod Placed
+pub mod Located
+pub mod Reading
+pub mod Answering

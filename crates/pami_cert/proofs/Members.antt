@@ -1,5 +1,5 @@
 -- Lines of one number each, taken apart and put together line by line.
-use Rattle.std.proofs.Common.{◌≡◌, ℕ, zero, suc, ◌+◌, ◌<◌, List, [], ◌∷◌, ◌++◌, length, map, get_or, refl, sym, ap, ◌∙◌, subst, arith, append_assoc}
+use Rattle.std.proofs.Common.{◌≡◌, ℕ, suc, ◌+◌, List, [], ◌∷◌, ◌++◌, length, map, refl, sym, ap, ◌∙◌, subst, arith, append_assoc}
 use Rattle.std.specs.List.{All}
 use Rattle.std.proofs.lemmas.List.{length_push}
 use Rattle.std.proofs.lemmas.List.Elements.{All-push}
@@ -10,7 +10,7 @@ use Rattle.pami_lines.specs.Certificate.{named_lines}
 use Rattle.pami_cert.specs.declared.part.Part.{Part}
 use Rattle.pami_cert.specs.Part.{tag}
 use Rattle.pami_cert.specs.CertText.{Fit}
-use Rattle.pami_cert.specs.Due.{Due, Variable, IsNumber}
+use Rattle.pami_cert.specs.Due.{Variable, IsNumber}
 use Rattle.pami_cert.specs.Read.{Line, AreMembers}
 use Rattle.pami_cert.proofs.Lists.{head_same, tail_same, all_nil, all_head, all_tail, all_more}
 use Rattle.pami_cert.proofs.Numbers.{printed_of_one}
@@ -47,7 +47,8 @@ pub members_passed : (part : Part) (ns : List (List ℕ)) (lines rest : List Lin
     Passed (map (λ name. Variable part name 1) ns) lines rest
 members_passed part ns lines rest xs h = subst (λ ls. Passed (map (λ name. Variable part name 1) ns) ls rest) (sym h.lines_are) (go ns xs h.numbers)
   where
-    go : (ns : List (List ℕ)) (xs : List Fraction) → AreMembers (length ns) xs → Passed (map (λ name. Variable part name 1) ns) (members (tag part) ns xs ++ rest) rest
+    go : (ns : List (List ℕ)) (xs : List Fraction) → AreMembers (length ns) xs →
+        Passed (map (λ name. Variable part name 1) ns) (members (tag part) ns xs ++ rest) rest
     go [] xs h = refl
     go (n ∷ ns) [] h = let e = h.numbers in absurd (omega (arith, e))
     go (n ∷ ns) (x ∷ xs) h = (
@@ -80,7 +81,8 @@ passed_members part (n ∷ ns) (w ∷ lines) rest h =
 
 -- ---- the numbers of lines are one
 
-pub members_of_one : (t : List ℕ) (ns : List (List ℕ)) (rest other : List Line) (xs ys : List Fraction) → AreMembers (length ns) xs → AreMembers (length ns) ys →
+pub members_of_one : (t : List ℕ) (ns : List (List ℕ)) (rest other : List Line) (xs ys : List Fraction) → AreMembers (length ns) xs →
+    AreMembers (length ns) ys →
     members t ns xs ++ rest ≡ members t ns ys ++ other → (xs ≡ ys) × (rest ≡ other)
 members_of_one t [] rest other [] [] h k e = (refl, e)
 members_of_one t [] rest other (x ∷ xs) ys h k e = let l = h.numbers in absurd (omega (arith, l))

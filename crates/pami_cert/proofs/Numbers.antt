@@ -1,6 +1,5 @@
 -- A printed fraction is printed of no other one, and a word is a printed fraction or not.
 use Rattle.std.proofs.Common.{◌≡◌, ℕ, zero, suc, ◌<◌, ◌^◌, Bool, true, false, cond, List, [], ◌∷◌, decimal, eqb, refl, sym, ap, ◌∙◌, subst, arith, IsTrue, ◌⊎◌, inl, inr, ⊎_elim, eqb-true, ◌≢◌, codes}
-use lib.Dec.{T}
 use Rattle.std.specs.List.{position_or_len}
 use Rattle.std.specs.Str.Parse.{digits_value, AllDigits}
 use Rattle.std.proofs.lemmas.Str.Parse.{digit_from_value}
@@ -13,8 +12,7 @@ use Rattle.pami_algebra.specs.Fraction.{Fraction}
 use Rattle.pami_algebra.specs.Reduced.{over, over_itself}
 use Rattle.pami_algebra.specs.Lowest.{same_fraction}
 use Rattle.pami_frac.specs.Range.{fits, signed_of}
-use Rattle.pami_frac.specs.Printed.{printed, printed_below, is_slash, without_minus}
-use Rattle.pami_frac.specs.Decimal.{is_negative}
+use Rattle.pami_frac.specs.Printed.{printed, printed_below, is_slash}
 use Rattle.pami_frac.proofs.PrintedParts.{above_small, below_small, first_part, second_part, sign_of_text, rest_of_text, signed_back}
 use Rattle.pami_cert.specs.Due.{IsNumber}
 use Rattle.pami_cert.proofs.Lists.{tail_same, same_or_not}
@@ -95,7 +93,8 @@ SpelledBelow w b = Below (λ d. Below (λ n. Spelled w (pos n) d ⊎ Spelled w (
 spelled_below_or_not : (w : List ℕ) (b : ℕ) → SpelledBelow w b ⊎ (¬ SpelledBelow w b)
 spelled_below_or_not w b =
     below_or_not (λ d. Below (λ n. Spelled w (pos n) d ⊎ Spelled w (negsuc n) d) b)
-    (λ d. below_or_not (λ n. Spelled w (pos n) d ⊎ Spelled w (negsuc n) d) (λ n. either_or_not (spelled_or_not w (pos n) d) (spelled_or_not w (negsuc n) d)) b) b
+    (λ d. below_or_not (λ n. Spelled w (pos n) d ⊎ Spelled w (negsuc n) d) (λ n. either_or_not (spelled_or_not w (pos n) d) (spelled_or_not w (negsuc n) d))
+    b) b
 
 spelled_number : (w : List ℕ) (b : ℕ) → SpelledBelow w b → IsNumber w
 spelled_number w b h = ⊎_elim (λ s. (over (pos h.1.1.0) h.0, s)) (λ s. (over (negsuc h.1.1.0) h.0, s)) h.1.1.1.1
@@ -123,4 +122,8 @@ pub number_not_wide : (v : Fraction) → IsTrue (fits v) → printed v ≡ codes
 number_not_wide v f e =
     let whole : codes "wide" ≡ signed_decimal v.num = first_part v (codes "wide") 4 f (sym e) refl in
     let digits : codes "wide" ≡ decimal (nat_abs v.num) = rest_of_text v.num (codes "wide") (above_small v f) whole in
-    omega (arith, digit_from_value 119 (subst (AllDigits 10) (sym digits) (decimal_is_IsNumeral_wide (nat_abs v.num) (far (nat_abs v.num) (above_small v f))).0.1).0)
+    omega (
+      arith,
+      digit_from_value 119 (subst (AllDigits 10) (sym digits)
+          (decimal_is_IsNumeral_wide (nat_abs v.num) (far (nat_abs v.num) (above_small v f))).0.1).0,
+    )

@@ -1,5 +1,5 @@
 -- Lines of two numbers each, taken apart and put together line by line.
-use Rattle.std.proofs.Common.{◌≡◌, ℕ, zero, suc, ◌+◌, ◌<◌, List, [], ◌∷◌, ◌++◌, length, map, get_or, refl, sym, ap, ◌∙◌, subst, arith, append_assoc}
+use Rattle.std.proofs.Common.{◌≡◌, ℕ, suc, ◌+◌, List, [], ◌∷◌, ◌++◌, length, map, refl, sym, ap, ◌∙◌, subst, arith, append_assoc}
 use Rattle.std.specs.List.{All}
 use Rattle.std.proofs.lemmas.List.{length_push}
 use Rattle.std.proofs.lemmas.List.Elements.{All-push}
@@ -10,7 +10,7 @@ use Rattle.pami_lines.specs.Certificate.{valued_from, valued_line}
 use Rattle.pami_cert.specs.declared.part.Part.{Part}
 use Rattle.pami_cert.specs.Part.{tag}
 use Rattle.pami_cert.specs.CertText.{Fit}
-use Rattle.pami_cert.specs.Due.{Due, Variable, IsNumber}
+use Rattle.pami_cert.specs.Due.{Variable, IsNumber}
 use Rattle.pami_cert.specs.Read.{Line, ArePairs}
 use Rattle.pami_cert.proofs.Lists.{head_same, tail_same, all_nil, all_head, all_tail, all_more}
 use Rattle.pami_cert.proofs.Numbers.{printed_of_one}
@@ -59,7 +59,8 @@ pub pairs_passed : (part : Part) (ns : List (List ℕ)) (lines rest : List Line)
     Passed (map (λ name. Variable part name 2) ns) lines rest
 pairs_passed part ns lines rest xs ds h = subst (λ ls. Passed (map (λ name. Variable part name 2) ns) ls rest) (sym h.lines_are) (go ns xs ds h.numbers)
   where
-    go : (ns : List (List ℕ)) (xs ds : List Fraction) → ArePairs (length ns) xs ds → Passed (map (λ name. Variable part name 2) ns) (pairs (tag part) ns xs ds ++ rest) rest
+    go : (ns : List (List ℕ)) (xs ds : List Fraction) → ArePairs (length ns) xs ds →
+        Passed (map (λ name. Variable part name 2) ns) (pairs (tag part) ns xs ds ++ rest) rest
     go [] xs ds h = refl
     go (n ∷ ns) [] ds h = let e = h.firsts in absurd (omega (arith, e))
     go (n ∷ ns) (x ∷ xs) [] h = let e = h.seconds in absurd (omega (arith, e))
@@ -112,7 +113,8 @@ passed_pairs part (n ∷ ns) (w ∷ lines) rest h =
 
 -- ---- the numbers of lines are one
 
-pub pairs_of_one : (t : List ℕ) (ns : List (List ℕ)) (rest other : List Line) (xs ds ys es : List Fraction) → ArePairs (length ns) xs ds → ArePairs (length ns) ys es →
+pub pairs_of_one : (t : List ℕ) (ns : List (List ℕ)) (rest other : List Line) (xs ds ys es : List Fraction) → ArePairs (length ns) xs ds →
+    ArePairs (length ns) ys es →
     pairs t ns xs ds ++ rest ≡ pairs t ns ys es ++ other → (xs ≡ ys) × ((ds ≡ es) × (rest ≡ other))
 pairs_of_one t [] rest other [] [] [] [] h k e = (refl, (refl, e))
 pairs_of_one t [] rest other (x ∷ xs) ds ys es h k e = let l = h.firsts in absurd (omega (arith, l))

@@ -1,5 +1,5 @@
 -- The lines of a certificate have plain words, so that they are read again as they were printed.
-use Rattle.std.proofs.Common.{◌≡◌, ℕ, suc, ◌+◌, ◌%◌, ◌<◌, ◌≤◌, ◌^◌, Bool, true, false, cond, List, [], ◌∷◌, ◌++◌, length, map, codes, decimal, eqb, refl, sym, ◌∙◌, ap, subst, arith, Option, None, Some, IsTrue, true≢false, leb→le}
+use Rattle.std.proofs.Common.{◌≡◌, ℕ, suc, ◌+◌, ◌%◌, ◌<◌, ◌≤◌, ◌^◌, Bool, true, false, cond, List, [], ◌∷◌, ◌++◌, length, codes, decimal, eqb, refl, sym, subst, arith, Option, None, Some, true≢false, leb→le}
 use Rattle.std.specs.Prelude.{nat_le}
 use lib.Dec.{T}
 use Rattle.std.specs.Fmt.{signed_decimal}
@@ -8,10 +8,8 @@ use Rattle.std.proofs.lemmas.Bool.{ne_eqb}
 use Rattle.std.proofs.lemmas.Fmt.{decimal_by_steps_wide}
 use lib.IntN.{ℤ, pos, negsuc, nat_abs}
 use Rattle.pami_algebra.specs.Fraction.{Fraction}
-use Rattle.pami_frac.specs.Range.{fits}
 use Rattle.pami_frac.specs.Printed.{printed, printed_below}
 use Rattle.pami_frac.proofs.PrintedParts.{above_small, below_small}
-use Rattle.pami_lines.specs.Line.{text}
 use Rattle.pami_lines.specs.Certificate.{objective_word}
 use Rattle.pami_model.specs.Contents.{Contents}
 use Rattle.pami_model.specs.Rules.{byte_limit}
@@ -35,7 +33,12 @@ plain_more [] ys h k = k
 plain_more (x ∷ xs) ys h k = (h.0, plain_more xs ys h.1 k)
 
 high_byte : (c : ℕ) → 33 ≤ c → IsPlainByte c
-high_byte c l = record { feed = ne_eqb c 10 (λ e. omega (arith, l, e)); return = ne_eqb c 13 (λ e. omega (arith, l, e)); blank = ne_eqb c 32 (λ e. omega (arith, l, e)) }
+high_byte c l = record {
+  feed = ne_eqb c 10 (λ e. omega (arith, l, e));
+  return = ne_eqb c 13 (λ e. omega (arith, l, e));
+  blank = ne_eqb c 32
+      (λ e. omega (arith, l, e));
+}
 
 decimal_plain : (n : ℕ) → n < 10 ^ 64 → IsPlain (decimal n)
 decimal_plain =

@@ -1,5 +1,5 @@
 -- Whole texts: each is a text of one certificate or has one first fault.
-use Rattle.std.proofs.Common.{◌≡◌, ℕ, suc, ◌+◌, ◌≤◌, ◌<◌, true, List, [], ◌∷◌, ◌++◌, length, refl, sym, ap, ◌∙◌, subst, arith, ◌⊎◌, inl, inr, ⊎_elim}
+use Rattle.std.proofs.Common.{◌≡◌, ℕ, suc, ◌+◌, ◌≤◌, true, List, ◌∷◌, ◌++◌, length, refl, sym, ap, ◌∙◌, subst, arith, ◌⊎◌, inl, inr, ⊎_elim}
 use Rattle.std.specs.List.{All}
 use Rattle.std.proofs.lemmas.Bool.{cases_lt}
 use Rattle.pami_model.specs.Contents.{Contents}
@@ -9,10 +9,10 @@ use Rattle.pami_cert.specs.declared.cert.CertFault.{CertFault}
 use Rattle.pami_cert.specs.declared.cert.CertKind.TheVariants as kinds
 use Rattle.pami_cert.specs.declared.cert.Claim.{Claim}
 use Rattle.pami_cert.specs.declared.cert.Claim.TheVariants as claims
-use Rattle.pami_cert.specs.CertLines.{head_line, cert_lines}
+use Rattle.pami_cert.specs.CertLines.{head_line}
 use Rattle.pami_cert.specs.CertText.{is_head, lines_in, IsCertText}
 use Rattle.pami_cert.specs.Due.{due}
-use Rattle.pami_cert.specs.FirstFault.{claim_word, fault_at, FirstWrong, WrongFrom, FaultFrom, FirstFault}
+use Rattle.pami_cert.specs.FirstFault.{claim_word, fault_at, FirstWrong, WrongFrom, FirstFault}
 use Rattle.pami_cert.specs.Read.{Line, claim_of, body, IsBody, IsPlainLine, HasHead}
 use Rattle.pami_cert.proofs.Lists.{head_same, tail_same}
 use Rattle.pami_cert.proofs.Dues.{Passed, passed_or_wrong, passed_not_wrong}
@@ -72,7 +72,8 @@ not_certificate_and_fault c bytes cert f h (inr k) =
     go (inl w) = w.0 (claim_of cert) refl
     go (inr w) = let same : claim_of cert ≡ w.0 = head_of_one (claim_of cert) w.0 w.1.0 in
         passed_not_wrong (due c w.0) (suc (1 + length h.before)) (body c cert ++ h.behind) h.behind f
-        (subst (λ claim. Passed (due c claim) (body c cert ++ h.behind) h.behind) same (body_passed c cert (body c cert ++ h.behind) h.behind (text_body c bytes cert h))) w.1.1
+        (subst (λ claim. Passed (due c claim) (body c cert ++ h.behind) h.behind) same
+        (body_passed c cert (body c cert ++ h.behind) h.behind (text_body c bytes cert h))) w.1.1
 
 abbrev HasText : Contents → List ℕ → Type 0
 HasText c bytes = (cert : Cert) × IsCertText c bytes cert
@@ -84,7 +85,8 @@ certificate_or_fault_in : (c : Contents) (bytes : List ℕ) → length bytes ≤
 certificate_or_fault_in c bytes l = heads (head_or_none (lines_in bytes))
   where
     bodies : (before : List Line) (w : Line) (rest : List Line) → HasHead (lines_in bytes) before w rest → (claim : Claim) → w ≡ head_line (claim_word claim) →
-        ((left : List Line) × Passed (due c claim) rest left) ⊎ ((f : CertFault) × FirstWrong (due c claim) (suc (1 + length before)) rest f) → HasText c bytes ⊎ HasFault c bytes
+        ((left : List Line) × Passed (due c claim) rest left) ⊎ ((f : CertFault) × FirstWrong (due c claim) (suc (1 + length before)) rest f) → HasText c
+        bytes ⊎ HasFault c bytes
     bodies before w rest h claim e (inl p) = let found = passed_body c claim rest p.0 p.1 in
         inl (found.0, text_of_parts c bytes claim found.0 before rest p.0 l (subst (λ v. HasHead (lines_in bytes) before v rest) e h) found.1.0 found.1.1)
     bodies before w rest h claim e (inr p) = inr (p.0, inr (l, fault_at_head c 1 (lines_in bytes) before w rest p.0 h (inr (claim, (e, p.1)))))
@@ -97,7 +99,8 @@ certificate_or_fault_in c bytes l = heads (head_or_none (lines_in bytes))
       inr (l, fault_at_head c 1 (lines_in bytes) before w rest (fault_at (1 + length before) kinds.Word) h (inl (k, refl))),
     )
 
-    heads : ((before : List Line) × ((w : Line) × ((rest : List Line) × HasHead (lines_in bytes) before w rest))) ⊎ All IsPlainLine (lines_in bytes) → HasText c bytes ⊎ HasFault c bytes
+    heads : ((before : List Line) × ((w : Line) × ((rest : List Line) × HasHead (lines_in bytes) before w rest))) ⊎ All IsPlainLine (lines_in bytes) →
+        HasText c bytes ⊎ HasFault c bytes
     heads (inl h) = known h.0 h.1.0 h.1.1.0 h.1.1.1 (claim_or_not h.1.0)
     heads (inr h) = inr (fault_at (1 + length (lines_in bytes)) kinds.Absent, inr (l, absent c 1 (lines_in bytes) h))
 

@@ -4,6 +4,7 @@ use Rattle.pami_frac.specs.declared.fault.Fault.{Fault}
 use Rattle.pami_frac.specs.declared.fault.Fault.TheVariants as faults
 use Rattle.pami_model.specs.Contents.{Contents}
 use Rattle.pami_model.specs.Rules.{byte_limit}
+use Rattle.pami_cert.specs.declared.cert.Cert.{Cert}
 use Rattle.pami_cert.specs.declared.cert.CertFault.{CertFault}
 use Rattle.pami_cert.specs.declared.cert.CertKind.{CertKind}
 use Rattle.pami_cert.specs.declared.cert.CertKind.TheVariants as kinds
@@ -50,3 +51,15 @@ abbrev pub IfNamed : {A : Type 0} → Result A (Fault CertFault) → (CertFault 
 IfNamed (Ok x) P = Unit {0}
 IfNamed (Err (faults.Named fault)) P = P fault
 IfNamed (Err faults.OutOfMemory) P = Unit {0}
+
+-- the certificate is read; want of memory is free
+abbrev pub IsReadAs : Cert → Result Cert (Fault CertFault) → Type 0
+IsReadAs cert (Ok read) = read ≡ cert
+IsReadAs cert (Err (faults.Named fault)) = ⊥
+IsReadAs cert (Err faults.OutOfMemory) = Unit {0}
+
+-- the text is refused with this fault; want of memory is free
+abbrev pub IsRefusedAs : CertFault → Result Cert (Fault CertFault) → Type 0
+IsRefusedAs fault (Ok read) = ⊥
+IsRefusedAs fault (Err (faults.Named named)) = named ≡ fault
+IsRefusedAs fault (Err faults.OutOfMemory) = Unit {0}

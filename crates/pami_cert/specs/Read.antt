@@ -1,5 +1,5 @@
 -- What a reader has read of a text, line by line: the lines left, the numbers of a part, a whole certificate's lines.
-use Rattle.std.specs.Prelude.{◌≡◌, ℕ, true, false, List, [], ◌∷◌, ◌++◌, length, drop, codes, ◌+◌}
+use Rattle.std.specs.Prelude.{◌≡◌, ℕ, ◌≤◌, ◌<◌, true, false, List, [], ◌∷◌, ◌++◌, length, take, drop, codes, ◌+◌, Option}
 use Rattle.std.specs.List.{All}
 use Rattle.pami_algebra.specs.Fraction.{Fraction}
 use Rattle.pami_frac.specs.Printed.{printed}
@@ -13,7 +13,10 @@ use Rattle.pami_cert.specs.declared.part.Part.{Part}
 use Rattle.pami_cert.specs.declared.part.Part.TheVariants.{Columns, Rows}
 use Rattle.pami_cert.specs.Part.{tag, names}
 use Rattle.pami_cert.specs.Sized.{IsSized}
-use Rattle.pami_cert.specs.CertLines.{pair_lines, member_lines, end_line}
+use Rattle.pami_cert.specs.CertLines.{pair_lines, member_lines, head_line, end_line}
+use Rattle.pami_cert.specs.declared.cert.CertFault.{CertFault}
+use Rattle.pami_cert.specs.Due.{Due}
+use Rattle.pami_cert.specs.FirstFault.{FirstWrong, claim_word}
 use Rattle.pami_cert.specs.CertText.{Fit, Fits, is_head, lines_in}
 
 -- a line, as its words
@@ -27,6 +30,17 @@ left_at bytes at = drop at (lines_in bytes)
 -- the line at this index
 abbrev pub HasLine : List ℕ → ℕ → Line → Type 0
 HasLine bytes at words = left_at bytes at ≡ words ∷ left_at bytes (at + 1)
+
+-- the fault of the lines from this index on, in which these are due
+abbrev pub IsWrongFrom : List Due → List ℕ → ℕ → CertFault → Type 0
+IsWrongFrom ds bytes at fault = FirstWrong ds (at + 1) (left_at bytes at) fault
+
+-- the line at this index isn't what is due there, or the text ends before it
+abbrev pub IsWrongAt : Due → List ℕ → ℕ → CertFault → Type 0
+IsWrongAt d bytes at fault = IsWrongFrom (d ∷ []) bytes at fault
+
+abbrev pub objective_line : Option Fraction → Line
+objective_line o = codes "objective" ∷ objective_word o ∷ []
 
 abbrev pub pair_line : Part → List ℕ → Fraction → Fraction → Line
 pair_line part name x d = tag part ∷ name ∷ printed x ∷ printed d ∷ []
@@ -55,6 +69,15 @@ pub record IsMemberPart (c : Contents) (part : Part) (lines rest : List Line) (x
   pub numbers : AreMembers (length (names c part)) xs
   pub lines_are : lines ≡ member_lines c part xs ++ rest
 
+-- the part that begins at this index has these numbers; the text goes on behind it
+pub record HasPairs (c : Contents) (part : Part) (bytes : List ℕ) (at : ℕ) (xs ds : List Fraction) : Type 0 where
+  pub within : at + length (names c part) ≤ length (lines_in bytes)
+  pub lines : IsPairPart c part (left_at bytes at) (left_at bytes (at + length (names c part))) xs ds
+
+pub record HasMembers (c : Contents) (part : Part) (bytes : List ℕ) (at : ℕ) (xs : List Fraction) : Type 0 where
+  pub within : at + length (names c part) ≤ length (lines_in bytes)
+  pub lines : IsMemberPart c part (left_at bytes at) (left_at bytes (at + length (names c part))) xs
+
 abbrev pub claim_of : Cert → Claim
 claim_of (certs.Optimal o x d r y) = claims.Optimal
 claim_of (certs.Infeasible y) = claims.Infeasible
@@ -63,7 +86,7 @@ claim_of (certs.DualInfeasible x r) = claims.DualInfeasible
 -- the lines of a certificate behind the first one
 abbrev pub body : Contents → Cert → List Line
 body c (certs.Optimal o x d r y) =
-    (codes "objective" ∷ objective_word o ∷ []) ∷ (pair_lines c Columns x d ++ (pair_lines c Rows r y ++ end_line ∷ []))
+    objective_line o ∷ (pair_lines c Columns x d ++ (pair_lines c Rows r y ++ end_line ∷ []))
 body c (certs.Infeasible y) = member_lines c Rows y ++ end_line ∷ []
 body c (certs.DualInfeasible x r) = member_lines c Columns x ++ (member_lines c Rows r ++ end_line ∷ [])
 
@@ -85,3 +108,8 @@ pub record HasHead (lines before : List Line) (words : Line) (rest : List Line) 
   pub lines_are : lines ≡ before ++ words ∷ rest
   pub skipped : All IsPlainLine before
   pub head : is_head words ≡ true
+
+-- the first line that begins a certificate stands at this index and makes this claim
+abbrev pub HasHeadAt : List ℕ → ℕ → Claim → Type 0
+HasHeadAt bytes at claim =
+    (at < length (lines_in bytes)) × HasHead (lines_in bytes) (take at (lines_in bytes)) (head_line (claim_word claim)) (left_at bytes (at + 1))

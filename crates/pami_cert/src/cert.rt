@@ -3,11 +3,12 @@
 use pami_frac::{Fault, Frac, FracList};
 use thiserror::Error;
 
-/// What shows an answer to be right, with no basis in it. The lists `x` and `d` go by column, `r` and `y` by row, in the
-/// model's order.
+/// What shows an answer to be right, with no basis in it. The lists `x` and `d` go by column, `r` and `y` by row, in
+/// the model's order.
 #[derive(Debug, Drop)]
 pub enum Cert {
-    /// Values, reduced costs and dual values; the objective in the file's own sense, `None` where it is told as too wide.
+    /// Values (`x` and `r`), reduced costs and dual values; the objective in the file's own sense, `None` where it is
+    /// told as too wide.
     Optimal {
         objective: Option<Frac>,
         x: FracList,
@@ -28,7 +29,7 @@ pub enum Cert {
 
 /// What a certificate is to show: the last word of its first line.
 #[derive(Clone, Copy, Debug, PartialEq, Eq)]
-pub enum Claim {
+pub(crate) enum Claim {
     Optimal,
     Infeasible,
     DualInfeasible,

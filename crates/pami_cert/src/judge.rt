@@ -28,7 +28,8 @@ fn number(word: &[u8]) -> Result<Frac, CertKind>
 
 /// The claim that a word names.
 fn claim_of(word: &[u8]) -> Option<Claim>
-    ensures { MatchOption result ((claim : Claim) → ¬ (word.now ≡ claim_word claim)) (λ claim. word.now ≡ claim_word claim) }
+    ensures { MatchOption result ((claim : Claim) → ¬ (word.now ≡ claim_word claim))
+        (λ claim. word.now ≡ claim_word claim) }
 {
     if word == b"optimal".as_slice() {
         return Some(Claim::Optimal);

@@ -32,8 +32,8 @@ pub fn not_certificate_and_fault()
         → IsCertText c bytes cert → FirstFault c bytes fault → ⊥ }
 {}
 
-/// What is printed of a certificate, with anything behind it within the limit, is a text of it: where its fractions fit and
-/// no name of the model has a blank or the end of a line in it.
+/// What is printed of a certificate, with anything behind it within the limit, is a text of it, where its fractions fit
+/// and no name of the model has a blank or the end of a line in it.
 pub fn printed_texts_are_certificates()
     ensures { (c : Contents) (cert : Cert) (more : List ℕ) → IsPrintable c cert
         → length (cert_text c cert ++ more) ≤ byte_limit → IsCertText c (cert_text c cert ++ more) cert }

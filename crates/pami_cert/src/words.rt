@@ -19,7 +19,8 @@ fn blank_place(bytes: &[u8]) -> usize
 
 /// The word before the first blank, and what stands behind that blank; `None` where there is no blank.
 fn first_word(line: &[u8]) -> Option<(&[u8], &[u8])>
-    ensures { MatchOption result (words_of line.now ≡ line.now ∷ []) (λ p. words_of line.now ≡ p.0.now ∷ words_of p.1.now) }
+    ensures { MatchOption result (words_of line.now ≡ line.now ∷ [])
+        (λ p. words_of line.now ≡ p.0.now ∷ words_of p.1.now) }
 {
     let place = blank_place(line);
     if place == line.len() {

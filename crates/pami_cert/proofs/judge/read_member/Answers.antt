@@ -14,7 +14,8 @@ returns-clause-wrong c =
     let words : words_of c.args.line.now ≡ t.first.now ∷ t.second.now ∷ t.value.now ∷ [] = search rules in
     let first : t.first.now ≡ tag c.args.part = search rules in
     let second : t.second.now ≡ c.args.name.now = search rules in
-    IfErr-weaker c.number.result (λ kind. (kind ≡ kinds.Number) × (¬ IsNumber t.value.now)) (λ kind. IsWrong (Variable c.args.part c.args.name.now 1) (words_of c.args.line.now) kind)
+    IfErr-weaker c.number.result (λ kind. (kind ≡ kinds.Number) × (¬ IsNumber t.value.now))
+    (λ kind. IsWrong (Variable c.args.part c.args.name.now 1) (words_of c.args.line.now) kind)
     (λ kind w. no_numbers c.args.part c.args.name.now 1 (words_of c.args.line.now) t.first.now t.second.now (t.value.now ∷ []) kind
     words first second refl w.0 (λ a. w.1 (all_head IsNumber t.value.now [] a)))
     c.number.ensures.wrong

@@ -12,4 +12,5 @@ returns-in_err-number-clause-wrong c =
     let other : ¬ (c.in_ok-first.value.now ≡ codes "wide") = search rules in
     let p = err_from_is_err_and c.from_residual-in_err-number.result c.from_residual-in_err-number.ensures.1 in
     handed_on c.from_residual-in_err-number.result p.0 c.in_err-number.field-0.0 (λ kind. IsWrong Objective (words_of c.args.line.now) kind) p.1 p.2
-    (no_objective (words_of c.args.line.now) c.in_ok-first.first.now c.in_ok-first.value.now c.in_err-number.field-0.0 words first other c.in_err-number.ensures.wrong)
+    (no_objective (words_of c.args.line.now) c.in_ok-first.first.now c.in_ok-first.value.now c.in_err-number.field-0.0 words first other
+    c.in_err-number.ensures.wrong)

@@ -15,7 +15,8 @@ returns-in_err-number-clause-wrong c =
     let second : t.second.now ≡ c.args.name.now = search rules in
     let w = c.in_err-number.ensures.wrong in
     let p = err_from_is_err_and c.from_residual-in_err-number.result c.from_residual-in_err-number.ensures.1 in
-    handed_on c.from_residual-in_err-number.result p.0 c.in_err-number.field-0.0 (λ kind. IsWrong (Variable c.args.part c.args.name.now 2) (words_of c.args.line.now) kind) p.1 p.2
+    handed_on c.from_residual-in_err-number.result p.0 c.in_err-number.field-0.0
+    (λ kind. IsWrong (Variable c.args.part c.args.name.now 2) (words_of c.args.line.now) kind) p.1 p.2
     (no_numbers c.args.part c.args.name.now 2 (words_of c.args.line.now) t.first.now t.second.now (t.value.now ∷ t.other.now ∷ []) c.in_err-number.field-0.0
     words first second refl w.0 (λ a. w.1 (all_head IsNumber t.value.now (t.other.now ∷ []) a)))
 
@@ -27,6 +28,7 @@ returns-in_err-number-2-clause-wrong c =
     let second : t.second.now ≡ c.args.name.now = search rules in
     let w = c.in_err-number-2.ensures.wrong in
     let p = err_from_is_err_and c.from_residual-in_err-number-2.result c.from_residual-in_err-number-2.ensures.1 in
-    handed_on c.from_residual-in_err-number-2.result p.0 c.in_err-number-2.field-0.0 (λ kind. IsWrong (Variable c.args.part c.args.name.now 2) (words_of c.args.line.now) kind) p.1 p.2
+    handed_on c.from_residual-in_err-number-2.result p.0 c.in_err-number-2.field-0.0
+    (λ kind. IsWrong (Variable c.args.part c.args.name.now 2) (words_of c.args.line.now) kind) p.1 p.2
     (no_numbers c.args.part c.args.name.now 2 (words_of c.args.line.now) t.first.now t.second.now (t.value.now ∷ t.other.now ∷ []) c.in_err-number-2.field-0.0
     words first second refl w.0 (λ a. w.1 (all_head IsNumber t.other.now [] (all_tail IsNumber t.value.now (t.other.now ∷ []) a))))

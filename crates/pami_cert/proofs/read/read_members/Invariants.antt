@@ -1,0 +1,6 @@
+use Rattle.pami_model.specs.Contents.{contents}
+use Rattle.pami_cert.proofs.Reading.{MembersSoFar}
+use Rattle.pami_cert.proofs.read.read_members.Given as goal
+
+abbrev pub invariant-loop-i : goal.invariant-loop-i
+invariant-loop-i l = MembersSoFar (contents l.model) l.part l.text.bytes.now l.at l.i l.values.items
