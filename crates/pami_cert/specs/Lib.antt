@@ -4,6 +4,6 @@ pub mod CertLines
 pub mod CertText
 pub mod Due
 pub mod FirstFault
-pub mod KindWords
+pub mod CertKinds
 pub mod Plain
 pub mod Read

@@ -54,7 +54,7 @@ pub enum CertKind {
 
 impl CertKind {
     ghost use Rattle.std.specs.Prelude.{◌≡◌};
-    ghost use Rattle.pami_cert.specs.KindWords.{kind_word};
+    ghost use Rattle.pami_cert.specs.CertKinds.{kind_word};
 
     /// The word by which a refusal tells this kind.
     pub fn word(&self) -> &'static [u8]
