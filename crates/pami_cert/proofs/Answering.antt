@@ -20,7 +20,7 @@ use Rattle.pami_cert.specs.CertLines.{head_line, end_line, cert_text}
 use Rattle.pami_cert.specs.CertText.{lines_in, MayFit, IsCertText}
 use Rattle.pami_cert.specs.Due.{Due, Objective, Variable, End, part_due, due, IsDue}
 use Rattle.pami_cert.specs.FirstFault.{claim_word, FirstWrong, FirstFault, IfNamed, IsReadAs, IsRefusedAs}
-use Rattle.pami_cert.specs.Plain.{IsPrintable}
+use Rattle.pami_cert.specs.Plain.{IsPrinted}
 use Rattle.pami_cert.specs.Read.{Line, left_at, HasLine, HasPairs, HasMembers, IsPairPart, IsMemberPart, HasBody, HasHeadAt, IsWrongFrom, IsWrongAt, objective_line}
 use Rattle.pami_cert.proofs.Dues.{Passed, wrong_front, wrong_behind}
 use Rattle.pami_cert.proofs.Pairs.{IsPairs, pairs_valued, pairs_passed}
@@ -217,7 +217,5 @@ only_fault c bytes (Err (faults.Named f)) h w fault k = one_first_fault c bytes 
 only_fault c bytes (Err faults.OutOfMemory) h w fault k = tt
 
 pub printed_read : (c : Contents) (bytes : List ℕ) (r : Result Cert (Fault CertFault)) → IfOk r (λ cert. IsCertText c bytes cert) →
-    IfNamed r (λ fault. FirstFault c bytes fault) → (cert : Cert) (more : List ℕ) → IsPrintable c cert → bytes ≡ cert_text c cert ++ more →
-    length bytes ≤ byte_limit → IsReadAs cert r
-printed_read c bytes r h w cert more p e l =
-    only_certificate c bytes r h w cert (subst (λ bs. IsCertText c bs cert) (sym e) (printed_is_text c cert more p (subst (λ bs. length bs ≤ byte_limit) e l)))
+    IfNamed r (λ fault. FirstFault c bytes fault) → (cert : Cert) → IsPrinted c bytes cert → IsReadAs cert r
+printed_read c bytes r h w cert p = only_certificate c bytes r h w cert (printed_is_text c bytes cert p)

@@ -3,7 +3,10 @@ use Rattle.std.proofs.Common.{◌≡◌, ℕ, false, List, [], ◌∷◌, ◌++�
 use Rattle.pami_edge.specs.Lines.{hang, begins_with_feed, lines_of}
 use Rattle.pami_lines.specs.Line.{line, text}
 use Rattle.pami_cert.specs.CertText.{words_of, lines_in}
-use Rattle.pami_cert.specs.Plain.{IsPlain, ArePlain}
+use Rattle.std.specs.List.{All}
+use Rattle.pami_cert.specs.Read.{BeginsNone}
+use Rattle.pami_cert.proofs.Lists.{all_nil, all_more}
+use Rattle.pami_cert.specs.Plain.{IsPlain, ArePlain, HasPlainWords, IsFront}
 
 -- words with one blank between them
 abbrev pub joined : List (List ℕ) → List ℕ
@@ -64,14 +67,10 @@ one_line : (ws : List (List ℕ)) (more : List ℕ) → ArePlain ws → lines_of
 one_line ws more h = ap (λ z. lines_of (z ++ more)) (line_is ws) ∙ ap lines_of (append_assoc (joined ws) (10 ∷ []) more)
     ∙ first_line (joined ws) more (joined_line ws h)
 
--- ---- whole texts: lines of at least one word, all of them plain
-abbrev pub Words : List (List ℕ) → Type 0
-Words [] = ⊥
-Words (w ∷ ws) = ArePlain (w ∷ ws)
-
+-- ---- whole texts
 abbrev pub Lines : List (List (List ℕ)) → Type 0
 Lines [] = Unit {0}
-Lines (ws ∷ rest) = Words ws × Lines rest
+Lines (ws ∷ rest) = HasPlainWords ws × Lines rest
 
 pub lines_more : (xs ys : List (List (List ℕ))) → Lines xs → Lines ys → Lines (xs ++ ys)
 lines_more [] ys h k = k
@@ -85,3 +84,13 @@ text_cut ((w ∷ ws) ∷ ls) more h =
     ∙ ap (map words_of) (one_line (w ∷ ws) (text ls ++ more) h.0)
     ∙ ap (λ z. z ∷ lines_in (text ls ++ more)) (cut_joined w ws h.0)
     ∙ ap (λ z. (w ∷ ws) ∷ z) (text_cut ls more h.1)
+
+-- ---- lines in front
+
+pub front_lines : (ls : List (List (List ℕ))) → IsFront ls → Lines ls
+front_lines [] h = tt
+front_lines (l ∷ ls) h = (h.0.0, front_lines ls h.1)
+
+pub front_skipped : (ls : List (List (List ℕ))) → IsFront ls → All BeginsNone ls
+front_skipped [] h = all_nil BeginsNone
+front_skipped (l ∷ ls) h = all_more BeginsNone l ls h.0.1 (front_skipped ls h.1)

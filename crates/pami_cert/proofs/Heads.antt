@@ -10,7 +10,7 @@ use Rattle.pami_cert.specs.CertLines.{head_line}
 use Rattle.pami_cert.specs.CertText.{is_head}
 use Rattle.pami_cert.specs.Due.{due}
 use Rattle.pami_cert.specs.FirstFault.{claim_word, fault_at, FirstWrong, WrongFrom, FaultFrom}
-use Rattle.pami_cert.specs.Read.{Line, IsPlainLine, HasHead}
+use Rattle.pami_cert.specs.Read.{Line, BeginsNone, HasHead}
 use Rattle.pami_cert.proofs.Lists.{head_same, tail_same, all_nil, all_head, all_tail, all_more, same_or_not}
 use Rattle.pami_cert.proofs.Dues.{one_wrong}
 use Rattle.pami_cert.proofs.Bodies.{head_of_one}
@@ -20,24 +20,24 @@ use Rattle.pami_cert.proofs.Bodies.{head_of_one}
 abbrev Heads : List Line → Type 0
 Heads lines = (before : List Line) × ((words : Line) × ((rest : List Line) × HasHead lines before words rest))
 
-pub head_or_none : (lines : List Line) → Heads lines ⊎ All IsPlainLine lines
-head_or_none [] = inr (all_nil IsPlainLine)
+pub head_or_none : (lines : List Line) → Heads lines ⊎ All BeginsNone lines
+head_or_none [] = inr (all_nil BeginsNone)
 head_or_none (w ∷ lines) = go (is_head w) refl (head_or_none lines)
   where
-    go : (b : Bool) → is_head w ≡ b → Heads lines ⊎ All IsPlainLine lines → Heads (w ∷ lines) ⊎ All IsPlainLine (w ∷ lines)
-    go true e h = inl ([], (w, (lines, record { lines_are = refl; skipped = all_nil IsPlainLine; head = e })))
+    go : (b : Bool) → is_head w ≡ b → Heads lines ⊎ All BeginsNone lines → Heads (w ∷ lines) ⊎ All BeginsNone (w ∷ lines)
+    go true e h = inl ([], (w, (lines, record { lines_are = refl; skipped = all_nil BeginsNone; head = e })))
     go false e (inl h) = let k = h.1.1.1 in
-        inl (w ∷ h.0, (h.1.0, (h.1.1.0, record { lines_are = ap (λ ls. w ∷ ls) k.lines_are; skipped = all_more IsPlainLine w h.0 e k.skipped; head = k.head })))
-    go false e (inr h) = inr (all_more IsPlainLine w lines e h)
+        inl (w ∷ h.0, (h.1.0, (h.1.1.0, record { lines_are = ap (λ ls. w ∷ ls) k.lines_are; skipped = all_more BeginsNone w h.0 e k.skipped; head = k.head })))
+    go false e (inr h) = inr (all_more BeginsNone w lines e h)
 
-behind_one : (before other : List Line) (w v : Line) (rest more : List Line) → All IsPlainLine before → All IsPlainLine other → is_head w ≡ true →
+behind_one : (before other : List Line) (w v : Line) (rest more : List Line) → All BeginsNone before → All BeginsNone other → is_head w ≡ true →
     is_head v ≡ true →
     before ++ w ∷ rest ≡ other ++ v ∷ more → w ∷ rest ≡ v ∷ more
 behind_one [] [] w v rest more h k e f g = g
-behind_one [] (y ∷ other) w v rest more h k e f g = absurd (true≢false (sym e ∙ ap is_head (head_same g) ∙ all_head IsPlainLine y other k))
-behind_one (x ∷ before) [] w v rest more h k e f g = absurd (true≢false (sym f ∙ ap is_head (sym (head_same g)) ∙ all_head IsPlainLine x before h))
+behind_one [] (y ∷ other) w v rest more h k e f g = absurd (true≢false (sym e ∙ ap is_head (head_same g) ∙ all_head BeginsNone y other k))
+behind_one (x ∷ before) [] w v rest more h k e f g = absurd (true≢false (sym f ∙ ap is_head (sym (head_same g)) ∙ all_head BeginsNone x before h))
 behind_one (x ∷ before) (y ∷ other) w v rest more h k e f g =
-    behind_one before other w v rest more (all_tail IsPlainLine x before h) (all_tail IsPlainLine y other k) e f (tail_same g)
+    behind_one before other w v rest more (all_tail BeginsNone x before h) (all_tail BeginsNone y other k) e f (tail_same g)
 
 pub one_head : (lines before other : List Line) (w v : Line) (rest more : List Line) → HasHead lines before w rest → HasHead lines other v more →
     w ∷ rest ≡ v ∷ more
@@ -46,19 +46,19 @@ one_head lines before other w v rest more h k =
 
 -- ---- faults before, at and behind it
 
-to_head : (c : Contents) (at : ℕ) (before : List Line) (w : Line) (rest : List Line) (f : CertFault) → All IsPlainLine before → is_head w ≡ true →
+to_head : (c : Contents) (at : ℕ) (before : List Line) (w : Line) (rest : List Line) (f : CertFault) → All BeginsNone before → is_head w ≡ true →
     FaultFrom c at (before ++ w ∷ rest) f → WrongFrom c (at + length before) w rest f
 to_head c at [] w rest f h e (inl k) = absurd (true≢false (sym e ∙ k.0))
 to_head c at [] w rest f h e (inr k) = subst (λ n. WrongFrom c n w rest f) (sym (add-zero at)) k.1
 to_head c at (x ∷ before) w rest f h e (inl k) = let n : suc at + length before ≡ at + suc (length before) = omega arith in
-    subst (λ m. WrongFrom c m w rest f) n (to_head c (suc at) before w rest f (all_tail IsPlainLine x before h) e k.1)
-to_head c at (x ∷ before) w rest f h e (inr k) = absurd (true≢false (sym k.0 ∙ all_head IsPlainLine x before h))
+    subst (λ m. WrongFrom c m w rest f) n (to_head c (suc at) before w rest f (all_tail BeginsNone x before h) e k.1)
+to_head c at (x ∷ before) w rest f h e (inr k) = absurd (true≢false (sym k.0 ∙ all_head BeginsNone x before h))
 
-from_head : (c : Contents) (at : ℕ) (before : List Line) (w : Line) (rest : List Line) (f : CertFault) → All IsPlainLine before → is_head w ≡ true →
+from_head : (c : Contents) (at : ℕ) (before : List Line) (w : Line) (rest : List Line) (f : CertFault) → All BeginsNone before → is_head w ≡ true →
     WrongFrom c (at + length before) w rest f → FaultFrom c at (before ++ w ∷ rest) f
 from_head c at [] w rest f h e k = inr (e, subst (λ n. WrongFrom c n w rest f) (add-zero at) k)
 from_head c at (x ∷ before) w rest f h e k = let n : at + suc (length before) ≡ suc at + length before = omega arith in
-    inl (all_head IsPlainLine x before h, from_head c (suc at) before w rest f (all_tail IsPlainLine x before h) e (subst (λ m. WrongFrom c m w rest f) n k))
+    inl (all_head BeginsNone x before h, from_head c (suc at) before w rest f (all_tail BeginsNone x before h) e (subst (λ m. WrongFrom c m w rest f) n k))
 
 pub fault_at_head : (c : Contents) (at : ℕ) (lines before : List Line) (w : Line) (rest : List Line) (f : CertFault) → HasHead lines before w rest →
     WrongFrom c (at + length before) w rest f → FaultFrom c at lines f
@@ -68,21 +68,21 @@ pub wrong_at_head : (c : Contents) (at : ℕ) (lines before : List Line) (w : Li
     FaultFrom c at lines f → WrongFrom c (at + length before) w rest f
 wrong_at_head c at lines before w rest f h k = to_head c at before w rest f h.skipped h.head (subst (λ ls. FaultFrom c at ls f) h.lines_are k)
 
-pub absent : (c : Contents) (at : ℕ) (lines : List Line) → All IsPlainLine lines → FaultFrom c at lines (fault_at (at + length lines) kinds.Absent)
+pub absent : (c : Contents) (at : ℕ) (lines : List Line) → All BeginsNone lines → FaultFrom c at lines (fault_at (at + length lines) kinds.Absent)
 absent c at [] h = ap (λ n. fault_at n kinds.Absent) (add-zero at)
 absent c at (x ∷ lines) h = let n : suc at + length lines ≡ at + suc (length lines) = omega arith in
     inl (
-      all_head IsPlainLine x lines h,
+      all_head BeginsNone x lines h,
       subst (λ m. FaultFrom c (suc at) lines (fault_at m kinds.Absent)) n
-          (absent c (suc at) lines (all_tail IsPlainLine x lines h)),
+          (absent c (suc at) lines (all_tail BeginsNone x lines h)),
     )
 
-absent_only : (c : Contents) (at : ℕ) (lines : List Line) (f : CertFault) → All IsPlainLine lines → FaultFrom c at lines f →
+absent_only : (c : Contents) (at : ℕ) (lines : List Line) (f : CertFault) → All BeginsNone lines → FaultFrom c at lines f →
     f ≡ fault_at (at + length lines) kinds.Absent
 absent_only c at [] f h k = k ∙ ap (λ n. fault_at n kinds.Absent) (sym (add-zero at))
 absent_only c at (x ∷ lines) f h (inl k) = let n : suc at + length lines ≡ at + suc (length lines) = omega arith in
-    absent_only c (suc at) lines f (all_tail IsPlainLine x lines h) k.1 ∙ ap (λ m. fault_at m kinds.Absent) n
-absent_only c at (x ∷ lines) f h (inr k) = absurd (true≢false (sym k.0 ∙ all_head IsPlainLine x lines h))
+    absent_only c (suc at) lines f (all_tail BeginsNone x lines h) k.1 ∙ ap (λ m. fault_at m kinds.Absent) n
+absent_only c at (x ∷ lines) f h (inr k) = absurd (true≢false (sym k.0 ∙ all_head BeginsNone x lines h))
 
 -- ---- one fault
 
@@ -96,7 +96,7 @@ one_wrong_from c at w rest f g (inr h) (inr k) = let same : h.0 ≡ k.0 = head_o
 pub one_fault_from : (c : Contents) (at : ℕ) (lines : List Line) (f g : CertFault) → FaultFrom c at lines f → FaultFrom c at lines g → f ≡ g
 one_fault_from c at lines f g h k = go (head_or_none lines)
   where
-    go : Heads lines ⊎ All IsPlainLine lines → f ≡ g
+    go : Heads lines ⊎ All BeginsNone lines → f ≡ g
     go (inl p) = let q = p.1.1.1 in
         one_wrong_from c (at + length p.0) p.1.0 p.1.1.0 f g (wrong_at_head c at lines p.0 p.1.0 p.1.1.0 f q h)
         (wrong_at_head c at lines p.0 p.1.0 p.1.1.0 g q k)

@@ -15,7 +15,7 @@ use Rattle.pami_cert.specs.declared.cert.CertKind.TheVariants as kinds
 use Rattle.pami_cert.specs.declared.cert.Claim.{Claim}
 use Rattle.pami_cert.specs.CertLines.{head_line}
 use Rattle.pami_cert.specs.FirstFault.{claim_word, fault_at, FaultFrom}
-use Rattle.pami_cert.specs.Read.{Line, left_at, HasLine, IsPlainLine, HasHead, HasHeadAt}
+use Rattle.pami_cert.specs.Read.{Line, left_at, HasLine, BeginsNone, HasHead, HasHeadAt}
 use Rattle.pami_cert.proofs.Heads.{fault_at_head, absent}
 
 -- there are no more lines than bytes
@@ -81,11 +81,11 @@ taken_length bytes at words h = let l = line_within bytes at words h in length-t
 
 -- ---- lines that begin no certificate, and the first that does
 
-pub plain_more : (bytes : List ℕ) (at : ℕ) (words : Line) → All IsPlainLine (take at (lines_in bytes)) → HasLine bytes at words → is_head words ≡ false →
-    All IsPlainLine (take (at + 1) (lines_in bytes))
-plain_more bytes at words h l e = subst (All IsPlainLine) (sym (line_taken bytes at words l)) (All-push IsPlainLine (take at (lines_in bytes)) words h e)
+pub plain_more : (bytes : List ℕ) (at : ℕ) (words : Line) → All BeginsNone (take at (lines_in bytes)) → HasLine bytes at words → is_head words ≡ false →
+    All BeginsNone (take (at + 1) (lines_in bytes))
+plain_more bytes at words h l e = subst (All BeginsNone) (sym (line_taken bytes at words l)) (All-push BeginsNone (take at (lines_in bytes)) words h e)
 
-pub head_here : (bytes : List ℕ) (at : ℕ) (words : Line) → All IsPlainLine (take at (lines_in bytes)) → HasLine bytes at words → is_head words ≡ true →
+pub head_here : (bytes : List ℕ) (at : ℕ) (words : Line) → All BeginsNone (take at (lines_in bytes)) → HasLine bytes at words → is_head words ≡ true →
     HasHead (lines_in bytes) (take at (lines_in bytes)) words (left_at bytes (at + 1))
 head_here bytes at words h l e = record {
   lines_are = sym (take-append-drop at (lines_in bytes)) ∙ ap (λ ls. take at (lines_in bytes) ++ ls) l;
@@ -93,7 +93,7 @@ head_here bytes at words h l e = record {
   head = e;
 }
 
-pub head_claims : (bytes : List ℕ) (at : ℕ) (words : Line) (claim : Claim) → All IsPlainLine (take at (lines_in bytes)) → HasLine bytes at words →
+pub head_claims : (bytes : List ℕ) (at : ℕ) (words : Line) (claim : Claim) → All BeginsNone (take at (lines_in bytes)) → HasLine bytes at words →
     is_head words ≡ true →
     words ≡ head_line (claim_word claim) → HasHeadAt bytes at claim
 head_claims bytes at words claim h l e f = (
@@ -102,7 +102,7 @@ head_claims bytes at words claim h l e f = (
       (head_here bytes at words h l e),
 )
 
-pub claim_unknown : (c : Contents) (bytes : List ℕ) (at : ℕ) (words : Line) (kind : CertKind) (f : CertFault) → All IsPlainLine (take at (lines_in bytes)) →
+pub claim_unknown : (c : Contents) (bytes : List ℕ) (at : ℕ) (words : Line) (kind : CertKind) (f : CertFault) → All BeginsNone (take at (lines_in bytes)) →
     HasLine bytes at words → is_head words ≡ true → (kind ≡ kinds.Word) × ((claim : Claim) → ¬ (words ≡ head_line (claim_word claim))) →
     f ≡ fault_at (at + 1) kind → FaultFrom c 1 (lines_in bytes) f
 claim_unknown c bytes at words kind f h l e none g =
@@ -110,9 +110,9 @@ claim_unknown c bytes at words kind f h l e none g =
     fault_at_head c 1 (lines_in bytes) (take at (lines_in bytes)) words (left_at bytes (at + 1)) f (head_here bytes at words h l e)
     (inl (none.1, g ∙ ap (fault_at (at + 1)) none.0 ∙ ap (λ m. fault_at m kinds.Word) n))
 
-pub none_begins : (c : Contents) (bytes : List ℕ) (at count : ℕ) → All IsPlainLine (take at (lines_in bytes)) → count ≡ length (lines_in bytes) → count ≤ at →
+pub none_begins : (c : Contents) (bytes : List ℕ) (at count : ℕ) → All BeginsNone (take at (lines_in bytes)) → count ≡ length (lines_in bytes) → count ≤ at →
     FaultFrom c 1 (lines_in bytes) (fault_at (count + 1) kinds.Absent)
 none_begins c bytes at count h e l =
     let n : 1 + length (lines_in bytes) ≡ count + 1 = omega (arith, e) in
     let all : take at (lines_in bytes) ≡ lines_in bytes = take_all at (lines_in bytes) (omega (arith, e, l)) in
-    subst (λ m. FaultFrom c 1 (lines_in bytes) (fault_at m kinds.Absent)) n (absent c 1 (lines_in bytes) (subst (All IsPlainLine) all h))
+    subst (λ m. FaultFrom c 1 (lines_in bytes) (fault_at m kinds.Absent)) n (absent c 1 (lines_in bytes) (subst (All BeginsNone) all h))

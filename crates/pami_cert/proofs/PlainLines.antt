@@ -1,5 +1,5 @@
 -- The lines of a certificate have plain words, so that they are read again as they were printed.
-use Rattle.std.proofs.Common.{◌≡◌, ℕ, suc, ◌+◌, ◌%◌, ◌<◌, ◌≤◌, ◌^◌, Bool, true, false, cond, List, [], ◌∷◌, ◌++◌, length, codes, decimal, eqb, refl, sym, subst, arith, Option, None, Some, true≢false, leb→le}
+use Rattle.std.proofs.Common.{◌≡◌, ℕ, suc, ◌+◌, ◌%◌, ◌<◌, ◌≤◌, ◌^◌, Bool, true, false, cond, List, [], ◌∷◌, ◌++◌, length, codes, decimal, eqb, refl, sym, ap, ◌∙◌, subst, arith, Option, None, Some, true≢false, leb→le}
 use Rattle.std.specs.Prelude.{nat_le}
 use lib.Dec.{T}
 use Rattle.std.specs.Fmt.{signed_decimal}
@@ -20,10 +20,10 @@ use Rattle.pami_cert.specs.declared.part.Part.TheVariants.{Columns, Rows}
 use Rattle.pami_cert.specs.Part.{tag, names}
 use Rattle.pami_cert.specs.CertLines.{pair_lines, member_lines, end_line, cert_lines, cert_text}
 use Rattle.pami_cert.specs.CertText.{lines_in, Fit, MayFit, IsCertText}
-use Rattle.pami_cert.specs.Plain.{IsPlainByte, IsPlain, ArePlain, HasPlainNames, IsPrintable}
+use Rattle.pami_cert.specs.Plain.{IsPlainByte, IsPlain, ArePlain, HasPlainNames, IsPrintable, IsPrinted}
 use Rattle.pami_cert.specs.Read.{ArePairs, AreMembers}
 use Rattle.pami_cert.proofs.Lists.{all_nil, all_head, all_tail}
-use Rattle.pami_cert.proofs.Cut.{Lines, lines_more, text_cut}
+use Rattle.pami_cert.proofs.Cut.{Lines, lines_more, text_cut, front_lines, front_skipped}
 use Rattle.pami_cert.proofs.Pairs.{pairs, pairs_valued}
 use Rattle.pami_cert.proofs.Members.{members, members_named}
 use Rattle.pami_cert.proofs.Bodies.{pairs_in, rows_in, columns_in}
@@ -140,14 +140,15 @@ lines_plain c (certs.DualInfeasible x r) h = (
       (lines_more (member_lines c Rows r) (end_line ∷ []) (part_members c Rows r h.names (rows_in c r h.sized.rows h.numbers.1)) end_plain),
 )
 
-pub printed_is_text : (c : Contents) (cert : Cert) (more : List ℕ) → IsPrintable c cert → length (cert_text c cert ++ more) ≤ byte_limit →
-    IsCertText c (cert_text c cert ++ more) cert
-printed_is_text c cert more h l = record {
-  short = l;
-  before = [];
-  behind = lines_in more;
-  lines = text_cut (cert_lines c cert) more (lines_plain c cert h);
-  skipped = all_nil _;
-  sized = h.sized;
-  numbers = h.numbers;
+pub printed_is_text : (c : Contents) (bytes : List ℕ) (cert : Cert) → IsPrinted c bytes cert → IsCertText c bytes cert
+printed_is_text c bytes cert h = record {
+  short = h.short;
+  before = h.front;
+  behind = lines_in h.behind;
+  lines = ap lines_in h.bytes_are
+      ∙ text_cut h.front (cert_text c cert ++ h.behind) (front_lines h.front h.begins)
+      ∙ ap (λ ls. h.front ++ ls) (text_cut (cert_lines c cert) h.behind (lines_plain c cert h.printable));
+  skipped = front_skipped h.front h.begins;
+  sized = h.printable.sized;
+  numbers = h.printable.numbers;
 }

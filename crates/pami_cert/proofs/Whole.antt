@@ -13,7 +13,7 @@ use Rattle.pami_cert.specs.CertLines.{head_line}
 use Rattle.pami_cert.specs.CertText.{is_head, lines_in, IsCertText}
 use Rattle.pami_cert.specs.Due.{due}
 use Rattle.pami_cert.specs.FirstFault.{claim_word, fault_at, FirstWrong, WrongFrom, FirstFault}
-use Rattle.pami_cert.specs.Read.{Line, claim_of, body, IsBody, IsPlainLine, HasHead}
+use Rattle.pami_cert.specs.Read.{Line, claim_of, body, IsBody, BeginsNone, HasHead}
 use Rattle.pami_cert.proofs.Lists.{head_same, tail_same}
 use Rattle.pami_cert.proofs.Dues.{Passed, passed_or_wrong, passed_not_wrong}
 use Rattle.pami_cert.proofs.Bodies.{lines_of_body, body_passed, passed_body, head_of_one, body_of_one}
@@ -99,7 +99,7 @@ certificate_or_fault_in c bytes l = heads (head_or_none (lines_in bytes))
       inr (l, fault_at_head c 1 (lines_in bytes) before w rest (fault_at (1 + length before) kinds.Word) h (inl (k, refl))),
     )
 
-    heads : ((before : List Line) × ((w : Line) × ((rest : List Line) × HasHead (lines_in bytes) before w rest))) ⊎ All IsPlainLine (lines_in bytes) →
+    heads : ((before : List Line) × ((w : Line) × ((rest : List Line) × HasHead (lines_in bytes) before w rest))) ⊎ All BeginsNone (lines_in bytes) →
         HasText c bytes ⊎ HasFault c bytes
     heads (inl h) = known h.0 h.1.0 h.1.1.0 h.1.1.1 (claim_or_not h.1.0)
     heads (inr h) = inr (fault_at (1 + length (lines_in bytes)) kinds.Absent, inr (l, absent c 1 (lines_in bytes) h))

@@ -100,13 +100,13 @@ pub record IsBody (c : Contents) (lines rest : List Line) (cert : Cert) : Type 0
 abbrev pub HasBody : Contents → Claim → List Line → Cert → Type 0
 HasBody c claim lines cert = (claim_of cert ≡ claim) × ((rest : List Line) × IsBody c lines rest cert)
 
-abbrev pub IsPlainLine : Line → Type 0
-IsPlainLine words = is_head words ≡ false
+abbrev pub BeginsNone : Line → Type 0
+BeginsNone words = is_head words ≡ false
 
 -- these lines stand before the first one that begins a certificate, and the rest behind it
 pub record HasHead (lines before : List Line) (words : Line) (rest : List Line) : Type 0 where
   pub lines_are : lines ≡ before ++ words ∷ rest
-  pub skipped : All IsPlainLine before
+  pub skipped : All BeginsNone before
   pub head : is_head words ≡ true
 
 -- the first line that begins a certificate stands at this index and makes this claim

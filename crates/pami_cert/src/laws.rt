@@ -1,14 +1,12 @@
 //! What holds of all texts: each is a text of one certificate or has one first fault, and what is printed is a text.
 
-ghost use Rattle.std.specs.Prelude.{◌≡◌, ◌⊎◌, ℕ, ◌≤◌, List, ◌++◌, length};
+ghost use Rattle.std.specs.Prelude.{◌≡◌, ◌⊎◌, ℕ, List};
 ghost use Rattle.pami_model.specs.Contents.{Contents};
-ghost use Rattle.pami_model.specs.Rules.{byte_limit};
 ghost use Rattle.pami_cert.specs.declared.cert.Cert.{Cert};
 ghost use Rattle.pami_cert.specs.declared.cert.CertFault.{CertFault};
-ghost use Rattle.pami_cert.specs.CertLines.{cert_text};
 ghost use Rattle.pami_cert.specs.CertText.{IsCertText};
 ghost use Rattle.pami_cert.specs.FirstFault.{FirstFault};
-ghost use Rattle.pami_cert.specs.Plain.{IsPrintable};
+ghost use Rattle.pami_cert.specs.Plain.{IsPrinted};
 
 /// One text has one certificate.
 pub fn one_certificate()
@@ -32,9 +30,8 @@ pub fn not_certificate_and_fault()
         → IsCertText c bytes cert → FirstFault c bytes fault → ⊥ }
 {}
 
-/// What is printed of a certificate, with anything behind it within the limit, is a text of it, where its fractions fit
-/// and no name of the model has a blank or the end of a line in it.
+/// What is printed of a certificate, with lines in front that begin none and anything behind it within the limit, is a
+/// text of it, where its fractions fit and no name of the model has a blank or the end of a line in it.
 pub fn printed_texts_are_certificates()
-    ensures { (c : Contents) (cert : Cert) (more : List ℕ) → IsPrintable c cert
-        → length (cert_text c cert ++ more) ≤ byte_limit → IsCertText c (cert_text c cert ++ more) cert }
+    ensures { (c : Contents) (bytes : List ℕ) (cert : Cert) → IsPrinted c bytes cert → IsCertText c bytes cert }
 {}

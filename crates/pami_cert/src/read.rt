@@ -1,16 +1,14 @@
 //! The texts of certificates, read.
 
-ghost use Rattle.std.specs.Prelude.{◌≡◌, ◌<◌, ◌≤◌, ◌+◌, ◌++◌, ℕ, List, length, IfOk};
+ghost use Rattle.std.specs.Prelude.{◌≡◌, ◌<◌, ◌≤◌, ◌+◌, ℕ, length, IfOk};
 ghost use Rattle.pami_model.specs.Contents.{contents};
-ghost use Rattle.pami_model.specs.Rules.{byte_limit};
 ghost use Rattle.pami_cert.specs.declared.cert.Cert.{Cert};
 ghost use Rattle.pami_cert.specs.declared.cert.CertFault.{CertFault};
 ghost use Rattle.pami_cert.specs.Part.{names};
-ghost use Rattle.pami_cert.specs.CertLines.{cert_text};
 ghost use Rattle.pami_cert.specs.CertText.{lines_in, IsCertText};
 ghost use Rattle.pami_cert.specs.Due.{due, part_due};
 ghost use Rattle.pami_cert.specs.FirstFault.{FirstFault, IfNamed, IsReadAs, IsRefusedAs};
-ghost use Rattle.pami_cert.specs.Plain.{IsPrintable};
+ghost use Rattle.pami_cert.specs.Plain.{IsPrinted};
 ghost use Rattle.pami_cert.specs.Read.{left_at, HasPairs, HasMembers, HasBody, IsWrongFrom};
 
 use crate::cert::{Cert, CertFault, CertKind, Claim};
@@ -169,10 +167,8 @@ pub fn read_cert(alloc: Global, bytes: &[u8], model: &Model) -> Result<Cert, Fau
     ensures only_certificate { (cert : Cert) → IsCertText (contents model.now) bytes.now cert → IsReadAs cert result }
     ensures only_fault { (fault : CertFault)
         → FirstFault (contents model.now) bytes.now fault → IsRefusedAs fault result }
-    // What was printed is read again, whatever stands behind it within the limit.
-    ensures printed { (cert : Cert) (more : List ℕ) → IsPrintable (contents model.now) cert
-        → bytes.now ≡ cert_text (contents model.now) cert ++ more → length bytes.now ≤ byte_limit
-        → IsReadAs cert result }
+    // What was printed is read again, whatever stands behind it within the limit, and whatever plain lines in front.
+    ensures printed { (cert : Cert) → IsPrinted (contents model.now) bytes.now cert → IsReadAs cert result }
 {
     read_text(alloc, bytes, model)
 }
