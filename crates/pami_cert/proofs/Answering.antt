@@ -16,7 +16,7 @@ use Rattle.pami_cert.specs.declared.cert.Claim.TheVariants as claims
 use Rattle.pami_cert.specs.declared.part.Part.{Part}
 use Rattle.pami_cert.specs.declared.part.Part.TheVariants.{Columns, Rows}
 use Rattle.pami_cert.specs.Part.{tag, names}
-use Rattle.pami_cert.specs.CertLines.{head_line, end_line, cert_text}
+use Rattle.pami_cert.specs.CertLines.{head_line, end_line}
 use Rattle.pami_cert.specs.CertText.{lines_in, MayFit, IsCertText}
 use Rattle.pami_cert.specs.Due.{Due, Objective, Variable, End, part_due, due, IsDue}
 use Rattle.pami_cert.specs.FirstFault.{claim_word, FirstWrong, FirstFault, IfNamed, IsReadAs, IsRefusedAs}

@@ -12,7 +12,6 @@ use Rattle.pami_frac.specs.Printed.{printed, printed_below}
 use Rattle.pami_frac.proofs.PrintedParts.{above_small, below_small}
 use Rattle.pami_lines.specs.Certificate.{objective_word}
 use Rattle.pami_model.specs.Contents.{Contents}
-use Rattle.pami_model.specs.Rules.{byte_limit}
 use Rattle.pami_cert.specs.declared.cert.Cert.{Cert}
 use Rattle.pami_cert.specs.declared.cert.Cert.TheVariants as certs
 use Rattle.pami_cert.specs.declared.part.Part.{Part}
@@ -22,7 +21,7 @@ use Rattle.pami_cert.specs.CertLines.{pair_lines, member_lines, end_line, cert_l
 use Rattle.pami_cert.specs.CertText.{lines_in, Fit, MayFit, IsCertText}
 use Rattle.pami_cert.specs.Plain.{IsPlainByte, IsPlain, ArePlain, HasPlainNames, IsPrintable, IsPrinted}
 use Rattle.pami_cert.specs.Read.{ArePairs, AreMembers}
-use Rattle.pami_cert.proofs.Lists.{all_nil, all_head, all_tail}
+use Rattle.pami_cert.proofs.Lists.{all_head, all_tail}
 use Rattle.pami_cert.proofs.Cut.{Lines, lines_more, text_cut, front_lines, front_skipped}
 use Rattle.pami_cert.proofs.Pairs.{pairs, pairs_valued}
 use Rattle.pami_cert.proofs.Members.{members, members_named}
