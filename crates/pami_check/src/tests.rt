@@ -1,5 +1,5 @@
-//! Verdicts worked out by hand, on models of one to three columns: certificates that hold, some that fail each condition,
-//! operations that are refused at each place, and which of two failures is told.
+//! Verdicts worked out by hand, on models of one to three columns: certificates that hold, some that fail each
+//! condition, operations that are refused at each place, and which of two failures is told.
 //!
 //! Numbers stand in tables as they are printed. `-` is no bound, `wide` no objective; a variable is told by its number.
 
@@ -42,8 +42,8 @@ fn bound(text: &str) -> Option<Frac> {
     }
 }
 
-/// The model of these rows, each its two bounds, and these columns, each its cost in the file's own sense, its two bounds
-/// and its entries by row.
+/// The model of these rows, each its two bounds, and these columns, each its cost in the file's own sense, its two
+/// bounds and its entries by row.
 fn model_of(
     rt: &impl Abort,
     alloc: Global,
