@@ -28,9 +28,6 @@ pub tested_stops : {A : Type 0} (ts us : List (Test A)) (a : A) (v : Verdict) �
 tested_stops ts us a v e = tested_append ts us a ∙ ap (λ r. onto r (tested us)) e
 
 -- ---- the tests of numbers
-pub each_none : {A : Type 0} (i n : ℕ) (t : ℕ → List (Test A)) → n ≤ i → each_of i (n - i) t ≡ []
-each_none i n t h = let e : n - i ≡ 0 = omega arith in ap (λ m. each_of i m t) e
-
 pub each_one : {A : Type 0} (i n : ℕ) (t : ℕ → List (Test A)) → i < n → each_of i (n - i) t ≡ t i ++ each_of (i + 1) (n - (i + 1)) t
 each_one i n t h = let e : n - i ≡ suc (n - (i + 1)) = omega arith in ap (λ m. each_of i m t) e
 
@@ -73,10 +70,6 @@ pub loop_stops : {A : Type 0} (s : Result A Verdict) (i n : ℕ) (t : ℕ → Li
     s ≡ tested (each_of i (n - i) t) a → i < n → tested (t i) a ≡ Err v → Err v ≡ s
 loop_stops s i n t a v e h f =
     sym (e ∙ ap (λ ts. tested ts a) (each_one i n t h) ∙ tested_stops (t i) (each_of (i + 1) (n - (i + 1)) t) a v f)
-
-pub loop_ends : {A : Type 0} (s : Result A Verdict) (i n : ℕ) (t : ℕ → List (Test A)) (a : A) →
-    s ≡ tested (each_of i (n - i) t) a → n ≤ i → Ok a ≡ s
-loop_ends s i n t a e h = sym (e ∙ ap (λ ts. tested ts a) (each_none i n t h))
 
 -- ---- two lists of tests by two calls
 pub step_goes : {A : Type 0} (ts us : List (Test A)) (a b : A) (s : Result A Verdict) → Ok b ≡ tested ts a → s ≡ tested us b → s ≡ tested (ts ++ us) a
