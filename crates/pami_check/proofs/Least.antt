@@ -22,7 +22,7 @@ use Rattle.pami_check.specs.declared.verdict.Condition.TheVariants as conditions
 use Rattle.pami_check.specs.declared.verdict.Verdict.{Verdict}
 use Rattle.pami_check.specs.declared.verdict.Verdict.TheVariants as verdicts
 use Rattle.pami_check.specs.Tests.{behind}
-use Rattle.pami_check.specs.Verdict.{with_bound, column_least, combination, finite_row, finite_column, finite_rows, finite_columns}
+use Rattle.pami_check.specs.Verdict.{with_bound, column_least, combination_script, finite_row, finite_column, finite_rows, finite_columns}
 use Rattle.pami_check.proofs.Decides.{Adds, Each, adds_by, adds_both, adds_each}
 use Rattle.pami_check.proofs.Points.{sum_is}
 
@@ -242,7 +242,7 @@ column_adds : (f : Form) (y : ℕ → Fraction) (j : ℕ) →
     Adds (finite_column f y j ∷ []) (IsFinite (limits f j) (neg_f (combined f y j))) (least_at (limits f j) (neg_f (combined f y j)))
 column_adds f y j =
     let l = limits f j in
-    let o = combination f y j in
+    let o = combination_script f y j in
     let is : (g : Fraction) → o ≡ Ok g → g ≡ combined f y j = λ g e. sum_is f.rows y (λ i. entry f i j) g e in
     record {
       passed = λ s r e. column_passed l j o (combined f y j) s r is e;

@@ -20,15 +20,15 @@ use Rattle.pami_check.specs.declared.verdict.Condition.TheVariants as conditions
 use Rattle.pami_check.specs.declared.verdict.Verdict.{Verdict}
 use Rattle.pami_check.specs.declared.verdict.Verdict.TheVariants as verdicts
 use Rattle.pami_check.specs.Tests.{Test, behind, tested, plain, each_of}
-use Rattle.pami_check.specs.Verdict.{rest_of, reduced_test, sign_test, sign_of, sign_tests, objective_script, row_least, column_least, combination, finite_row, finite_column, finite_rows, finite_columns, positive_test, infeasible_tests}
-use Rattle.pami_check.specs.Sums.{cost_in, column_signs, row_sign, row_signs, finite}
+use Rattle.pami_check.specs.Verdict.{rest_script, reduced_test, sign_test, sign_at, sign_tests, objective_script, row_least, column_least, combination_script, finite_row, finite_column, finite_rows, finite_columns, positive_test, infeasible_tests}
+use Rattle.pami_check.specs.Lists.{cost_by, column_signs, row_sign, row_signs, finite}
 use Rattle.pami_check.proofs.Tested.{first_same, each_append, each_shift}
 use Rattle.pami_check.proofs.Read.{first_get, second_get, cost_member}
 
 -- ---- reduced costs
 pub rest_same : (c : Contents) (j : ℕ) (d : Column) (xs ys : List Fraction) →
     slice_get c.columns j ≡ Some d → length xs ≡ length c.columns → length ys ≡ length c.rows →
-    sub_dot (length ys) (get ys) (at d.entries) (minimised c.sense d.cost) ≡ rest_of (model_form c) (get (xs ++ ys)) j
+    sub_dot (length ys) (get ys) (at d.entries) (minimised c.sense d.cost) ≡ rest_script (model_form c) (get (xs ++ ys)) j
 rest_same c j d xs ys e n m =
     let all = get (xs ++ ys) in
     ap (λ i. sub_dot i (get ys) (at d.entries) (minimised c.sense d.cost)) m
@@ -46,7 +46,7 @@ pub reduced_item : (c : Contents) (j : ℕ) (d : Column) (xs ys : List Fraction)
 reduced_item c j d xs ys v e n m f =
     let k : j < length xs = subst (λ i. j < i) (sym n) (slice_get_within c.columns j d e) in
     ap (λ o. tested (plain conditions.Reduced (Some j) ((then) o (λ t. Ok (is_same t v))) ∷ []) tt) (rest_same c j d xs ys e n m)
-    ∙ ap (λ z. tested (plain conditions.Reduced (Some j) ((then) (rest_of (model_form c) (get (xs ++ ys)) j) (λ t. Ok (is_same t z))) ∷ []) tt)
+    ∙ ap (λ z. tested (plain conditions.Reduced (Some j) ((then) (rest_script (model_form c) (get (xs ++ ys)) j) (λ t. Ok (is_same t z))) ∷ []) tt)
     (f ∙ first_get xs ys j k)
 
 -- ---- signs
@@ -72,7 +72,7 @@ row_sign_item c i k d r y v a e q f g =
 pub sign_parts : (f : Form) (x d r y : List Fraction) → length x ≡ f.columns → length d ≡ f.columns →
     column_signs f (get x) (get d) ++ row_signs f (get r) (get y) ≡ sign_tests f (get (x ++ r)) (get (d ++ y))
 sign_parts f x d r y n m =
-    let t : ℕ → List (Test (Unit {0})) = λ v. sign_of f (get (x ++ r)) (get (d ++ y)) v ∷ [] in
+    let t : ℕ → List (Test (Unit {0})) = λ v. sign_at f (get (x ++ r)) (get (d ++ y)) v ∷ [] in
     let e : 0 + f.columns ≡ f.columns + 0 = omega arith in
     ap (λ ts. ts ++ row_signs f (get r) (get y))
     (first_same f.columns (λ j. sign_test (limits f j) j (get x j) (get d j) ∷ []) t
@@ -88,8 +88,8 @@ sign_parts f x d r y n m =
 
 -- ---- sums of costs
 pub objective_same : (c : Contents) (columns : List Column) (x : List Fraction) → columns ≡ c.columns →
-    add_dot (length columns) (cost_in senses.Min columns) (get x) c.constant ≡ objective_script c (get x)
-objective_same c columns x s = ap (λ cs. add_dot (length cs) (cost_in senses.Min cs) (get x) c.constant) s
+    add_dot (length columns) (cost_by senses.Min columns) (get x) c.constant ≡ objective_script c (get x)
+objective_same c columns x s = ap (λ cs. add_dot (length cs) (cost_by senses.Min cs) (get x) c.constant) s
 
 pub objective_longer : (c : Contents) (x r : List Fraction) → length x ≡ length c.columns → objective_script c (get x) ≡ objective_script c (get (x ++ r))
 objective_longer c x r e =
@@ -99,9 +99,9 @@ objective_longer c x r e =
     ap (add_product t (file_cost c j)) (first_get x r j (subst (λ k. j < k) (sym e) h)))
 
 pub cost_same : (c : Contents) (x r : List Fraction) → length x ≡ length c.columns →
-    add_dot (length c.columns) (cost_in c.sense c.columns) (get x) zero_f ≡ add_dot (length c.columns) (cost (model_form c)) (get (x ++ r)) zero_f
+    add_dot (length c.columns) (cost_by c.sense c.columns) (get x) zero_f ≡ add_dot (length c.columns) (cost (model_form c)) (get (x ++ r)) zero_f
 cost_same c x r e =
-    scripts.each_same (length c.columns) 0 (λ j (t : Fraction). add_product t (cost_in c.sense c.columns j) (get x j))
+    scripts.each_same (length c.columns) 0 (λ j (t : Fraction). add_product t (cost_by c.sense c.columns j) (get x j))
     (λ j (t : Fraction). add_product t (cost (model_form c) j) (get (x ++ r) j)) zero_f
     (λ j a b t. let h : j < length c.columns = omega (arith, b) in
     ap (λ z. add_product t z (get x j)) (sym (cost_member c j h))
@@ -118,7 +118,7 @@ finite_row_item c i k d y v s e n f =
     ∙ ap (λ z. finite w (row_least (limits (model_form c) w) z s)) f
 
 pub combination_same : (c : Contents) (j : ℕ) (d : Column) (y : List Fraction) → slice_get c.columns j ≡ Some d → length y ≡ length c.rows →
-    add_dot (length y) (get y) (at d.entries) zero_f ≡ combination (model_form c) (get y) j
+    add_dot (length y) (get y) (at d.entries) zero_f ≡ combination_script (model_form c) (get y) j
 combination_same c j d y e m =
     ap (λ i. add_dot i (get y) (at d.entries) zero_f) m
     ∙ scripts.each_same (length c.rows) 0 (λ i (t : Fraction). add_product t (get y i) (at d.entries i))
@@ -131,7 +131,7 @@ pub finite_column_item : (c : Contents) (j : ℕ) (d : Column) (y : List Fractio
     ≡ tested (finite_column (model_form c) (get y) j ∷ []) s
 finite_column_item c j d y s e m =
     ap (λ o. finite j ((then) o (λ g. column_least d.bounds g s))) (combination_same c j d y e m)
-    ∙ ap (λ (l : Bounds). finite j ((then) (combination (model_form c) (get y) j) (λ g. column_least l g s))) (sym (bounds_of_column c j d e))
+    ∙ ap (λ (l : Bounds). finite j ((then) (combination_script (model_form c) (get y) j) (λ g. column_least l g s))) (sym (bounds_of_column c j d e))
 
 pub infeasible_parts : (f : Form) (y : ℕ → Fraction) (s : Fraction) →
     tested ((finite_rows f y ++ finite_columns f y) ++ positive_test ∷ []) s ≡ tested (infeasible_tests f y) s

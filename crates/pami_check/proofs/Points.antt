@@ -16,7 +16,7 @@ use Rattle.pami_theory.specs.Certificate.{IsComplementary}
 use Rattle.pami_theory.proofs.Signs.{is_same_iff}
 use Rattle.pami_theory.proofs.Forms.{by_variable, rows_point, point_rows}
 use Rattle.pami_check.specs.declared.verdict.Condition.TheVariants as conditions
-use Rattle.pami_check.specs.Verdict.{is_above, is_under, is_within, is_at, is_signed, bound_of, row_test, row_pair, column_tests, row_tests, point_tests, rest_of, reduced_test, reduced_tests, sign_of, sign_tests}
+use Rattle.pami_check.specs.Verdict.{is_above, is_under, is_within, is_at, is_signed, bound_at, row_test, row_pair, column_tests, row_tests, point_tests, rest_script, reduced_test, reduced_tests, sign_at, sign_tests}
 use Rattle.pami_check.proofs.Decides.{Decides, Each, decides_by, decides_both, decides_each, decides_bool, decides_script}
 
 -- ---- tests of single values
@@ -50,12 +50,12 @@ within_iff l x =
 abbrev IsInReach : Form → (Bounds → Bounds) → (ℕ → Fraction) → ℕ → Type 0
 IsInReach f reach x v = IsWithin (reach (limits f v)) (x v)
 
-bound_decided : (f : Form) (reach : Bounds → Bounds) (x : ℕ → Fraction) (v : ℕ) → Decides (bound_of f reach x v ∷ []) (IsInReach f reach x v)
+bound_decided : (f : Form) (reach : Bounds → Bounds) (x : ℕ → Fraction) (v : ℕ) → Decides (bound_at f reach x v ∷ []) (IsInReach f reach x v)
 bound_decided f reach x v =
     decides_bool conditions.Bound (Some v) (is_within (reach (limits f v)) (x v)) (IsInReach f reach x v) (within_iff (reach (limits f v)) (x v))
 
 columns_decided : (f : Form) (reach : Bounds → Bounds) (x : ℕ → Fraction) → Decides (column_tests f reach x) (Each f.columns (IsInReach f reach x))
-columns_decided f reach x = decides_each f.columns (λ j. bound_of f reach x j ∷ []) (IsInReach f reach x) (λ j l. bound_decided f reach x j)
+columns_decided f reach x = decides_each f.columns (λ j. bound_at f reach x j ∷ []) (IsInReach f reach x) (λ j l. bound_decided f reach x j)
 
 -- a script from 0 on that isn't refused has the value of its sum
 pub sum_is : (n : ℕ) (u v : ℕ → Fraction) (t : Fraction) → add_dot n u v zero_f ≡ Ok t → t ≡ dot n u v
@@ -79,7 +79,7 @@ RowIsGood f reach x i = IsSum f x i × IsInReach f reach x (row_variable f i)
 rows_decided : (f : Form) (reach : Bounds → Bounds) (x : ℕ → Fraction) → Decides (row_tests f reach x) (Each f.rows (RowIsGood f reach x))
 rows_decided f reach x = decides_each f.rows (row_pair f reach x) (RowIsGood f reach x)
     (λ i l. let v = row_variable f i in
-    decides_both (row_test f x i ∷ []) (bound_of f reach x v ∷ []) (IsSum f x i) (IsInReach f reach x v) (sum_decided f x i) (bound_decided f reach x v))
+    decides_both (row_test f x i ∷ []) (bound_at f reach x v ∷ []) (IsSum f x i) (IsInReach f reach x v) (sum_decided f x i) (bound_decided f reach x v))
 
 -- a point whose values are within what `reach` makes of their bounds
 pub record IsReached (f : Form) (reach : Bounds → Bounds) (x : ℕ → Fraction) : Type 0 where
@@ -97,13 +97,13 @@ points_decided f reach x =
 abbrev pub IsReduced : Form → (ℕ → Fraction) → ℕ → Type 0
 IsReduced f d j = d j ≡ cost f j -ᶠ dot f.rows (λ i. d (row_variable f i)) (λ i. entry f i j)
 
-rest_is : (f : Form) (d : ℕ → Fraction) (j : ℕ) (t : Fraction) → rest_of f d j ≡ Ok t →
+rest_is : (f : Form) (d : ℕ → Fraction) (j : ℕ) (t : Fraction) → rest_script f d j ≡ Ok t →
     t ≡ cost f j -ᶠ dot f.rows (λ i. d (row_variable f i)) (λ i. entry f i j)
 rest_is f d j t e = sub_dot_value f.rows (λ i. d (row_variable f i)) (λ i. entry f i j) (cost f j) t e
 
 pub reduced_decided : (f : Form) (d : ℕ → Fraction) → Decides (reduced_tests f d) (Each f.columns (IsReduced f d))
 reduced_decided f d = decides_each f.columns (λ j. reduced_test f d j ∷ []) (IsReduced f d)
-    (λ j l. decides_script conditions.Reduced (Some j) (rest_of f d j) (λ t. is_same t (d j)) (IsReduced f d j)
+    (λ j l. decides_script conditions.Reduced (Some j) (rest_script f d j) (λ t. is_same t (d j)) (IsReduced f d j)
     (λ t e. same_for t (cost f j -ᶠ dot f.rows (λ i. d (row_variable f i)) (λ i. entry f i j)) (d j) (rest_is f d j t e)))
 
 -- ---- signs
@@ -133,5 +133,5 @@ abbrev IsSigned : Form → (ℕ → Fraction) → (ℕ → Fraction) → ℕ →
 IsSigned f x d v = IsComplementary (limits f v) (x v) (d v)
 
 pub signs_decided : (f : Form) (x d : ℕ → Fraction) → Decides (sign_tests f x d) (Each (variables f) (λ v. IsComplementary (limits f v) (x v) (d v)))
-signs_decided f x d = decides_each (variables f) (λ v. sign_of f x d v ∷ []) (IsSigned f x d)
+signs_decided f x d = decides_each (variables f) (λ v. sign_at f x d v ∷ []) (IsSigned f x d)
     (λ v l. decides_bool conditions.Sign (Some v) (is_signed (limits f v) (x v) (d v)) (IsSigned f x d v) (signed_iff (limits f v) (x v) (d v)))

@@ -14,7 +14,7 @@ use Rattle.pami_model.specs.Rules.{IsRising, AreColumns, AreEntries}
 use Rattle.pami_model_form.specs.ModelForm.{minimised, model_form}
 use Rattle.pami_model_form.proofs.Members.{member_is, cost_of_column, entry_of_column}
 use Rattle.pami_model_form.proofs.Rises.{entries_rise}
-use Rattle.pami_check.specs.Sums.{entry_in, cost_in}
+use Rattle.pami_check.specs.Lists.{entry_by, cost_by}
 
 -- ---- a member that was read, of a list that is the same
 pub at_place : {X : Type 0} (xs ys : List X) (i : ℕ) (x : X) → xs ≡ ys → i < length xs → x ≡ get_or xs i x → slice_get ys i ≡ Some x
@@ -36,12 +36,12 @@ second_get x r n i e =
     sym (get_or-append_right x r n (n + i) zero_f e (omega arith) ∙ ap (get r) k)
 
 -- ---- entries and costs, by the list of columns
-pub entry_member : (c : Contents) (i j : ℕ) → j < length c.columns → i < length c.rows → entry (model_form c) i j ≡ entry_in c.columns i j
+pub entry_member : (c : Contents) (i j : ℕ) → j < length c.columns → i < length c.rows → entry (model_form c) i j ≡ entry_by c.columns i j
 entry_member c i j l h =
     let m = some_member c.columns j l in
     entry_of_column c j m.0 i m.1 h ∙ sym (member_is (λ (column : Column). at column.entries i) zero_f c.columns j m.0 m.1)
 
-pub cost_member : (c : Contents) (j : ℕ) → j < length c.columns → cost (model_form c) j ≡ cost_in c.sense c.columns j
+pub cost_member : (c : Contents) (j : ℕ) → j < length c.columns → cost (model_form c) j ≡ cost_by c.sense c.columns j
 cost_member c j l =
     let m = some_member c.columns j l in
     cost_of_column c j m.0 m.1 ∙ sym (member_is (λ (column : Column). minimised c.sense column.cost) zero_f c.columns j m.0 m.1)

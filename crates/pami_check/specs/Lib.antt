@@ -3,4 +3,4 @@ pub mod Tests
 pub mod Verdict
 pub mod Holds
 pub mod Shows
-pub mod Sums
+pub mod Lists

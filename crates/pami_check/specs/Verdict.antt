@@ -58,22 +58,22 @@ abbrev pub bound_test : Bounds → ℕ → Fraction → Test (Unit {0})
 bound_test l v x = plain Bound (Some v) (Ok (is_within l x))
 
 -- the value of variable v is within what `reach` makes of its bounds
-abbrev pub bound_of : Form → (Bounds → Bounds) → (ℕ → Fraction) → ℕ → Test (Unit {0})
-bound_of f reach x v = bound_test (reach (limits f v)) v (x v)
+abbrev pub bound_at : Form → (Bounds → Bounds) → (ℕ → Fraction) → ℕ → Test (Unit {0})
+bound_at f reach x v = bound_test (reach (limits f v)) v (x v)
 
--- whether the value of row i is the sum over its columns
-abbrev pub is_sum : Form → (ℕ → Fraction) → ℕ → Result Bool Refused
-is_sum f x i = (then) (add_dot f.columns (entry f i) x zero_f) (λ t. Ok (is_same t (x (row_variable f i))))
+-- the sum over the columns of row i
+abbrev pub row_script : Form → (ℕ → Fraction) → ℕ → Result Fraction Refused
+row_script f x i = add_dot f.columns (entry f i) x zero_f
 
 abbrev pub row_test : Form → (ℕ → Fraction) → ℕ → Test (Unit {0})
-row_test f x i = plain Row (Some (row_variable f i)) (is_sum f x i)
+row_test f x i = plain Row (Some (row_variable f i)) ((then) (row_script f x i) (λ t. Ok (is_same t (x (row_variable f i)))))
 
 -- row i: its sum, and then its bounds
 abbrev pub row_pair : Form → (Bounds → Bounds) → (ℕ → Fraction) → ℕ → List (Test (Unit {0}))
-row_pair f reach x i = row_test f x i ∷ bound_of f reach x (row_variable f i) ∷ []
+row_pair f reach x i = row_test f x i ∷ bound_at f reach x (row_variable f i) ∷ []
 
 abbrev pub column_tests : Form → (Bounds → Bounds) → (ℕ → Fraction) → List (Test (Unit {0}))
-column_tests f reach x = each_of 0 f.columns (λ j. bound_of f reach x j ∷ [])
+column_tests f reach x = each_of 0 f.columns (λ j. bound_at f reach x j ∷ [])
 
 abbrev pub row_tests : Form → (Bounds → Bounds) → (ℕ → Fraction) → List (Test (Unit {0}))
 row_tests f reach x = each_of 0 f.rows (row_pair f reach x)
@@ -85,11 +85,11 @@ point_tests f reach x = column_tests f reach x ++ row_tests f reach x
 -- ---- optimal
 
 -- the cost of column j without the combination of its entries
-abbrev pub rest_of : Form → (ℕ → Fraction) → ℕ → Result Fraction Refused
-rest_of f d j = sub_dot f.rows (λ i. d (row_variable f i)) (λ i. entry f i j) (cost f j)
+abbrev pub rest_script : Form → (ℕ → Fraction) → ℕ → Result Fraction Refused
+rest_script f d j = sub_dot f.rows (λ i. d (row_variable f i)) (λ i. entry f i j) (cost f j)
 
 abbrev pub reduced_test : Form → (ℕ → Fraction) → ℕ → Test (Unit {0})
-reduced_test f d j = plain Reduced (Some j) ((then) (rest_of f d j) (λ t. Ok (is_same t (d j))))
+reduced_test f d j = plain Reduced (Some j) ((then) (rest_script f d j) (λ t. Ok (is_same t (d j))))
 
 abbrev pub reduced_tests : Form → (ℕ → Fraction) → List (Test (Unit {0}))
 reduced_tests f d = each_of 0 f.columns (λ j. reduced_test f d j ∷ [])
@@ -98,11 +98,11 @@ reduced_tests f d = each_of 0 f.columns (λ j. reduced_test f d j ∷ [])
 abbrev pub sign_test : Bounds → ℕ → Fraction → Fraction → Test (Unit {0})
 sign_test l v x d = plain Sign (Some v) (Ok (is_signed l x d))
 
-abbrev pub sign_of : Form → (ℕ → Fraction) → (ℕ → Fraction) → ℕ → Test (Unit {0})
-sign_of f x d v = sign_test (limits f v) v (x v) (d v)
+abbrev pub sign_at : Form → (ℕ → Fraction) → (ℕ → Fraction) → ℕ → Test (Unit {0})
+sign_at f x d v = sign_test (limits f v) v (x v) (d v)
 
 abbrev pub sign_tests : Form → (ℕ → Fraction) → (ℕ → Fraction) → List (Test (Unit {0}))
-sign_tests f x d = each_of 0 (variables f) (λ v. sign_of f x d v ∷ [])
+sign_tests f x d = each_of 0 (variables f) (λ v. sign_at f x d v ∷ [])
 
 -- nothing is asked where no objective is told
 abbrev pub objective_tests : Option Fraction → Result Fraction Refused → List (Test (Unit {0}))
@@ -141,14 +141,14 @@ finite_row f y i = record {
 }
 
 -- the combination of the rows at column j
-abbrev pub combination : Form → (ℕ → Fraction) → ℕ → Result Fraction Refused
-combination f y j = add_dot f.rows y (λ i. entry f i j) zero_f
+abbrev pub combination_script : Form → (ℕ → Fraction) → ℕ → Result Fraction Refused
+combination_script f y j = add_dot f.rows y (λ i. entry f i j) zero_f
 
 abbrev pub finite_column : Form → (ℕ → Fraction) → ℕ → Test Fraction
 finite_column f y j = record {
   condition = Finite;
   variable = Some j;
-  outcome = λ s. (then) (combination f y j) (λ g. column_least (limits f j) g s);
+  outcome = λ s. (then) (combination_script f y j) (λ g. column_least (limits f j) g s);
 }
 
 abbrev pub positive_test : Test Fraction

@@ -9,7 +9,7 @@ ghost use Rattle.pami_model.specs.Contents.{contents};
 ghost use Rattle.pami_model_form.specs.ModelForm.{model_form};
 ghost use Rattle.pami_check.specs.Tests.{tested};
 ghost use Rattle.pami_check.specs.Verdict.{dual_infeasible_tests};
-ghost use Rattle.pami_check.specs.Sums.{cost_in};
+ghost use Rattle.pami_check.specs.Lists.{cost_by};
 
 use crate::point::{Reach, point_found};
 use crate::single::{is_below, judged};
@@ -21,7 +21,7 @@ use pami_model::Model;
 /// Whether the cost falls along a direction.
 fn cost_outcome(model: &Model, z: &[Frac]) -> Result<bool, Refused>
     requires { length z.now ≡ length (contents model.now).columns }
-    ensures { result ≡ (then) (add_dot (length model.now.columns) (cost_in model.now.sense model.now.columns)
+    ensures { result ≡ (then) (add_dot (length model.now.columns) (cost_by model.now.sense model.now.columns)
         (get z.now) zero_f) (λ t. Ok (is_below t zero_f)) }
 {
     let zero = Frac::zero();

@@ -10,7 +10,7 @@ ghost use Rattle.pami_model.specs.Contents.{contents};
 ghost use Rattle.pami_model_form.specs.ModelForm.{model_form};
 ghost use Rattle.pami_check.specs.Tests.{tested};
 ghost use Rattle.pami_check.specs.Verdict.{with_bound, row_least, column_least, finite_rows, finite_columns, infeasible_tests};
-ghost use Rattle.pami_check.specs.Sums.{finite};
+ghost use Rattle.pami_check.specs.Lists.{finite};
 
 use crate::single::is_below;
 use crate::sums::column_sum;

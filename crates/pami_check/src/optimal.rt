@@ -10,7 +10,7 @@ ghost use Rattle.pami_model.specs.Contents.{contents};
 ghost use Rattle.pami_model_form.specs.ModelForm.{model_form};
 ghost use Rattle.pami_check.specs.Tests.{tested};
 ghost use Rattle.pami_check.specs.Verdict.{reduced_tests, sign_test, sign_tests, objective_script, objective_tests, optimal_tests};
-ghost use Rattle.pami_check.specs.Sums.{row_signs, column_signs};
+ghost use Rattle.pami_check.specs.Lists.{row_signs, column_signs};
 
 use crate::point::{Reach, point_found};
 use crate::single::{is_same, is_signed, judged};

@@ -14,7 +14,7 @@ ghost use Rattle.pami_model.specs.Rules.{IsRising};
 ghost use Rattle.pami_check.specs.declared.verdict.Condition.{Condition};
 ghost use Rattle.pami_check.specs.Tests.{tested, plain};
 ghost use Rattle.pami_check.specs.Verdict.{bound_test, column_tests, row_tests, point_tests, zero_at};
-ghost use Rattle.pami_check.specs.Sums.{entry_in, reached};
+ghost use Rattle.pami_check.specs.Lists.{entry_by, reached};
 
 use crate::single::{is_same, is_within, judged};
 use crate::sums::row_sum;
@@ -78,7 +78,7 @@ fn columns_found(model: &Model, reach: Reach, x: &[Frac]) -> Result<(), Verdict>
 fn row_outcome(columns: &[Column], row: u32, x: &[Frac], value: Frac) -> Result<bool, Refused>
     requires rising { All (λ (c : Column). IsRising c.entries) columns.now }
     requires values { length x.now ≡ length columns.now }
-    ensures { result ≡ (then) (add_dot (length columns.now) (entry_in columns.now row) (get x.now) zero_f)
+    ensures { result ≡ (then) (add_dot (length columns.now) (entry_by columns.now row) (get x.now) zero_f)
         (λ t. Ok (is_same t value)) }
 {
     let total = row_sum(columns, row, x)?;
@@ -98,7 +98,7 @@ fn row_found(
     requires values { length x.now ≡ length columns.now }
     requires few { length columns.now + row < 2 ^ 32 }
     ensures { result ≡ tested (plain Condition.Row (Some (length columns.now + row))
-        ((then) (add_dot (length columns.now) (entry_in columns.now row) (get x.now) zero_f)
+        ((then) (add_dot (length columns.now) (entry_by columns.now row) (get x.now) zero_f)
         (λ t. Ok (is_same t value.now)))
         ∷ bound_test (reached reach bounds.now) (length columns.now + row) value.now ∷ []) tt }
 {

@@ -13,7 +13,7 @@ ghost use Rattle.pami_theory.specs.Form.{zero_f};
 ghost use Rattle.pami_model.specs.declared.list.Column.{Column};
 ghost use Rattle.pami_model.specs.Rules.{IsRising};
 ghost use Rattle.pami_model_form.specs.ModelForm.{minimised};
-ghost use Rattle.pami_check.specs.Sums.{entry_in, cost_in};
+ghost use Rattle.pami_check.specs.Lists.{entry_by, cost_by};
 
 use pami_frac::{Entry, Frac, Refused};
 use pami_model::{Column, Sense};
@@ -44,7 +44,7 @@ fn entry_at(entries: &[Entry], row: u32) -> Frac
 pub(crate) fn row_sum(columns: &[Column], row: u32, values: &[Frac]) -> Result<Frac, Refused>
     requires rising { All (λ (c : Column). IsRising c.entries) columns.now }
     requires values { length values.now ≡ length columns.now }
-    ensures { result ≡ add_dot (length columns.now) (entry_in columns.now row) (get values.now) zero_f }
+    ensures { result ≡ add_dot (length columns.now) (entry_by columns.now row) (get values.now) zero_f }
 {
     let mut total = Frac::zero();
     for (j, column) in columns.iter().enumerate() {
@@ -73,7 +73,7 @@ pub(crate) fn cost_sum(
     values: &[Frac],
 ) -> Result<Frac, Refused>
     requires { length values.now ≡ length columns.now }
-    ensures { result ≡ add_dot (length columns.now) (cost_in sense columns.now) (get values.now) start }
+    ensures { result ≡ add_dot (length columns.now) (cost_by sense columns.now) (get values.now) start }
 {
     let mut total = start;
     for (j, column) in columns.iter().enumerate() {

@@ -420,7 +420,7 @@ fn operations_refused_in_optimal_certificates(rt: HostRuntime) -> Result<(), Fai
             ("wide", "10", "0", "100 1", "0 0", "invalid row 2"),
         ],
     )?;
-    // With the greatest number as the cost: in the product the dual value stands left, and nothing more can be taken on.
+    // With the greatest number as the cost: the dual value stands left in a product, and nothing more can be taken on.
     let dear = model_of(
         &rt,
         alloc,

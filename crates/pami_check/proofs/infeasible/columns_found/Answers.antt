@@ -9,7 +9,7 @@ use Rattle.pami_script.specs.Dense.{at, Rising}
 use Rattle.pami_script.specs.Script.{then, add_dot}
 use Rattle.pami_theory.specs.Form.{zero_f}
 use Rattle.pami_check.specs.Verdict.{column_least, finite_column}
-use Rattle.pami_check.specs.Sums.{finite}
+use Rattle.pami_check.specs.Lists.{finite}
 use Rattle.pami_check.proofs.Read.{at_place, column_rises}
 use Rattle.pami_check.proofs.Parts.{finite_column_item}
 use Rattle.pami_check.proofs.Tested.{loop_goes, loop_stops}

@@ -5,7 +5,7 @@ use Rattle.pami_model.specs.Contents.{contents}
 use Rattle.pami_model_form.specs.ModelForm.{model_form}
 use Rattle.pami_script.proofs.Loops.{get_is}
 use Rattle.pami_check.specs.Verdict.{finite_row}
-use Rattle.pami_check.specs.Sums.{finite}
+use Rattle.pami_check.specs.Lists.{finite}
 use Rattle.pami_check.proofs.Read.{at_place}
 use Rattle.pami_check.proofs.Parts.{finite_row_item}
 use Rattle.pami_check.proofs.Tested.{loop_goes, loop_stops}

@@ -5,7 +5,7 @@ use Rattle.pami_model_form.specs.ModelForm.{model_form}
 use Rattle.pami_check.specs.Tests.{tested, each_of}
 use Rattle.pami_theory.specs.Form.{limits}
 use Rattle.pami_check.specs.Verdict.{sign_test}
-use Rattle.pami_check.specs.Sums.{column_signs}
+use Rattle.pami_check.specs.Lists.{column_signs}
 use Rattle.pami_check.proofs.optimal.column_signs_found.Given as goal
 
 abbrev pub invariant-loop-j : goal.invariant-loop-j

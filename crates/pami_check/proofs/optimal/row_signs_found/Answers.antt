@@ -4,7 +4,7 @@ use Rattle.pami_linear.specs.Lists.{get}
 use Rattle.pami_model.specs.Contents.{contents}
 use Rattle.pami_model_form.specs.ModelForm.{model_form}
 use Rattle.pami_script.proofs.Loops.{get_is}
-use Rattle.pami_check.specs.Sums.{row_sign}
+use Rattle.pami_check.specs.Lists.{row_sign}
 use Rattle.pami_check.proofs.Read.{at_place}
 use Rattle.pami_check.proofs.Parts.{row_sign_item}
 use Rattle.pami_check.proofs.Tested.{loop_goes, loop_stops}

@@ -3,7 +3,7 @@ use Rattle.pami_linear.specs.Lists.{get}
 use Rattle.pami_model.specs.Contents.{contents}
 use Rattle.pami_model_form.specs.ModelForm.{model_form}
 use Rattle.pami_check.specs.Tests.{tested, each_of}
-use Rattle.pami_check.specs.Sums.{row_sign, row_signs}
+use Rattle.pami_check.specs.Lists.{row_sign, row_signs}
 use Rattle.pami_check.proofs.optimal.row_signs_found.Given as goal
 
 abbrev pub invariant-loop-i : goal.invariant-loop-i

@@ -4,7 +4,7 @@ use Rattle.pami_linear.specs.Lists.{get}
 use Rattle.pami_model.specs.Contents.{contents}
 use Rattle.pami_model_form.specs.ModelForm.{model_form}
 use Rattle.pami_check.specs.Tests.{tested}
-use Rattle.pami_check.specs.Sums.{column_signs, row_signs}
+use Rattle.pami_check.specs.Lists.{column_signs, row_signs}
 use Rattle.pami_check.proofs.Tested.{step_goes, step_stops}
 use Rattle.pami_check.proofs.Parts.{sign_parts}
 use Rattle.pami_check.proofs.optimal.signs_found.Goals as goal

@@ -4,8 +4,8 @@ use Rattle.pami_linear.specs.Lists.{get}
 use Rattle.pami_model.specs.Contents.{contents}
 use Rattle.pami_model_form.specs.ModelForm.{model_form}
 use Rattle.pami_script.proofs.Loops.{get_is}
-use Rattle.pami_check.specs.Verdict.{bound_of}
-use Rattle.pami_check.specs.Sums.{reached}
+use Rattle.pami_check.specs.Verdict.{bound_at}
+use Rattle.pami_check.specs.Lists.{reached}
 use Rattle.pami_check.proofs.Read.{at_place}
 use Rattle.pami_check.proofs.Items.{column_item}
 use Rattle.pami_check.proofs.Tested.{loop_goes, loop_stops}
@@ -25,7 +25,7 @@ returns-in_err-bound_found c =
     let item = column_item m c.args.reach (get c.args.x.now) j column c.index-x-j.result h x in
     let xs = get c.args.x.now in
     p.1 ∙ ap Err p.2
-    ∙ loop_stops _ j (length columns) (λ j. bound_of f (reached c.args.reach) xs j ∷ []) tt c.in_err-bound_found.field-0.0 c.loop-j.invariant c.loop-j-test.true
+    ∙ loop_stops _ j (length columns) (λ j. bound_at f (reached c.args.reach) xs j ∷ []) tt c.in_err-bound_found.field-0.0 c.loop-j.invariant c.loop-j-test.true
     (sym (c.in_err-bound_found.ensures ∙ item))
 
 pub loop-j-preserved : goal.loop-j-preserved
@@ -40,5 +40,5 @@ loop-j-preserved c =
     let x = get_is c.args.x.now j c.index-x-j.result (subst (λ k. j < k) (n ∙ sym c.requires) c.loop-j-test.true) c.index-x-j.is in
     let item = column_item m c.args.reach (get c.args.x.now) j column c.index-x-j.result h x in
     let xs = get c.args.x.now in
-    loop_goes _ j (length columns) (λ j. bound_of f (reached c.args.reach) xs j ∷ []) tt tt c.loop-j.invariant c.loop-j-test.true
+    loop_goes _ j (length columns) (λ j. bound_at f (reached c.args.reach) xs j ∷ []) tt tt c.loop-j.invariant c.loop-j-test.true
     (sym (c.in_ok-bound_found.ensures ∙ item))

@@ -8,7 +8,7 @@ use Rattle.std.specs.List.{All}
 use Rattle.pami_model.specs.declared.list.Column.{Column}
 use Rattle.pami_model.specs.Rules.{IsRising}
 use Rattle.pami_check.specs.Verdict.{row_pair}
-use Rattle.pami_check.specs.Sums.{reached}
+use Rattle.pami_check.specs.Lists.{reached}
 use Rattle.pami_check.proofs.Read.{at_place, columns_rise}
 use Rattle.pami_check.proofs.Items.{row_item}
 use Rattle.pami_check.proofs.Tested.{loop_goes, loop_stops}

@@ -4,7 +4,7 @@ use Rattle.pami_model.specs.Contents.{contents}
 use Rattle.pami_model_form.specs.ModelForm.{model_form}
 use Rattle.pami_check.specs.Tests.{tested, each_of}
 use Rattle.pami_check.specs.Verdict.{row_pair, row_tests}
-use Rattle.pami_check.specs.Sums.{reached}
+use Rattle.pami_check.specs.Lists.{reached}
 use Rattle.pami_check.proofs.point.rows_found.Given as goal
 
 abbrev pub invariant-loop-i : goal.invariant-loop-i

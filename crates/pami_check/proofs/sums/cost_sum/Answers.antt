@@ -3,7 +3,7 @@ use Rattle.std.proofs.lemmas.Result.{err_from_is_err_and}
 use Rattle.pami_algebra.specs.Fraction.{Fraction}
 use Rattle.pami_linear.specs.Lists.{get}
 use Rattle.pami_model_form.specs.ModelForm.{minimised}
-use Rattle.pami_check.specs.Sums.{cost_in}
+use Rattle.pami_check.specs.Lists.{cost_by}
 use Rattle.pami_script.specs.Script.{add_product}
 use Rattle.pami_script.proofs.Loops.{each_goes, each_stops, get_is}
 use Rattle.pami_theory.specs.Form.{zero_f}
@@ -20,9 +20,9 @@ returns-in_err-total c =
     let total = c.loop-j.total in
     let k = member_read (λ (d : Column). minimised c.args.sense d.cost) zero_f columns j c.index-columns-j.result c.loop-j-test.true c.index-columns-j.is in
     let x = get_is values j c.index-values-j.result (subst (λ n. j < n) (sym c.requires) c.loop-j-test.true) c.index-values-j.is in
-    let same = ap (λ z. add_product total z c.index-values-j.result) (c.minimised.ensures ∙ k) ∙ ap (add_product total (cost_in c.args.sense columns j)) x in
+    let same = ap (λ z. add_product total z c.index-values-j.result) (c.minimised.ensures ∙ k) ∙ ap (add_product total (cost_by c.args.sense columns j)) x in
     p.1 ∙ ap Err p.2
-    ∙ each_stops _ (length columns) j (λ j (t : Fraction). add_product t (cost_in c.args.sense columns j) (get values j)) total c.in_err-total.field-0.0
+    ∙ each_stops _ (length columns) j (λ j (t : Fraction). add_product t (cost_by c.args.sense columns j) (get values j)) total c.in_err-total.field-0.0
     c.loop-j.invariant c.loop-j-test.true (sym (c.in_err-total.ensures ∙ same))
 
 pub loop-j-preserved : goal.loop-j-preserved
@@ -33,6 +33,6 @@ loop-j-preserved c =
     let total = c.loop-j.total in
     let k = member_read (λ (d : Column). minimised c.args.sense d.cost) zero_f columns j c.index-columns-j.result c.loop-j-test.true c.index-columns-j.is in
     let x = get_is values j c.index-values-j.result (subst (λ n. j < n) (sym c.requires) c.loop-j-test.true) c.index-values-j.is in
-    let same = ap (λ z. add_product total z c.index-values-j.result) (c.minimised.ensures ∙ k) ∙ ap (add_product total (cost_in c.args.sense columns j)) x in
-    each_goes _ (length columns) j (λ j (t : Fraction). add_product t (cost_in c.args.sense columns j) (get values j)) total c.in_ok-total.total
+    let same = ap (λ z. add_product total z c.index-values-j.result) (c.minimised.ensures ∙ k) ∙ ap (add_product total (cost_by c.args.sense columns j)) x in
+    each_goes _ (length columns) j (λ j (t : Fraction). add_product t (cost_by c.args.sense columns j) (get values j)) total c.in_ok-total.total
     c.loop-j.invariant c.loop-j-test.true (sym (c.in_ok-total.ensures ∙ same))

@@ -17,12 +17,12 @@ use Rattle.pami_check.specs.Tests.{Test, behind, each_of}
 use Rattle.pami_check.specs.Verdict.{cone, sign_test}
 
 -- the entry of a row in a column
-abbrev pub entry_in : List Column → ℕ → ℕ → Fraction
-entry_in columns i j = member (λ (c : Column). at c.entries i) zero_f columns j
+abbrev pub entry_by : List Column → ℕ → ℕ → Fraction
+entry_by columns i j = member (λ (c : Column). at c.entries i) zero_f columns j
 
 -- the cost of a column that is to be made small
-abbrev pub cost_in : Sense → List Column → ℕ → Fraction
-cost_in sense columns j = member (λ (c : Column). minimised sense c.cost) zero_f columns j
+abbrev pub cost_by : Sense → List Column → ℕ → Fraction
+cost_by sense columns j = member (λ (c : Column). minimised sense c.cost) zero_f columns j
 
 -- what the values of points, and those of directions, are within
 abbrev pub reached : Reach → Bounds → Bounds
