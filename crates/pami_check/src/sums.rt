@@ -8,7 +8,7 @@ ghost use Rattle.std.specs.Prelude.{◌≡◌, length};
 ghost use Rattle.std.specs.List.{All};
 ghost use Rattle.pami_linear.specs.Lists.{get};
 ghost use Rattle.pami_script.specs.Dense.{at, Rising};
-ghost use Rattle.pami_script.specs.Script.{add_dot, sub_dot};
+ghost use Rattle.pami_script.specs.Script.{add_product, add_dot, sub_dot};
 ghost use Rattle.pami_theory.specs.Form.{zero_f};
 ghost use Rattle.pami_model.specs.declared.list.Column.{Column};
 ghost use Rattle.pami_model.specs.Rules.{IsRising};
@@ -40,6 +40,17 @@ fn entry_at(entries: &[Entry], row: u32) -> Frac
     Frac::zero()
 }
 
+/// The total with the entry at a row times a value. A value of 0, which most columns have, needs no entry.
+fn add_at(total: Frac, entries: &[Entry], row: u32, value: Frac) -> Result<Frac, Refused>
+    requires { IsRising entries.now }
+    ensures { result ≡ add_product total (at entries.now row) value }
+{
+    if value.is_zero() {
+        return Ok(total);
+    }
+    add_product(total, entry_at(entries, row), value)
+}
+
 /// The sum over a row, columns ascending: 0, and then each entry times the column's value.
 pub(crate) fn row_sum(columns: &[Column], row: u32, values: &[Frac]) -> Result<Frac, Refused>
     requires rising { All (λ (c : Column). IsRising c.entries) columns.now }
@@ -48,8 +59,7 @@ pub(crate) fn row_sum(columns: &[Column], row: u32, values: &[Frac]) -> Result<F
 {
     let mut total = Frac::zero();
     for (j, column) in columns.iter().enumerate() {
-        let entry = entry_at(column.entries.as_slice(), row);
-        total = add_product(total, entry, values[j])?;
+        total = add_at(total, column.entries.as_slice(), row, values[j])?;
     }
     Ok(total)
 }

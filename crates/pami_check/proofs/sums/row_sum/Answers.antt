@@ -20,7 +20,7 @@ returns-in_err-total c =
     let total = c.loop-j.total in
     let k = member_read (λ (d : Column). at d.entries c.args.row) zero_f columns j c.index-columns-j.result c.loop-j-test.true c.index-columns-j.is in
     let x = get_is values j c.index-values-j.result (subst (λ n. j < n) (sym c.requires.values) c.loop-j-test.true) c.index-values-j.is in
-    let entry = c.entry_at-entry.ensures ∙ ap (λ es. at es c.args.row) c.as_slice.ensures ∙ k in
+    let entry = ap (λ es. at es c.args.row) c.as_slice.ensures ∙ k in
     let same = ap (λ z. add_product total z c.index-values-j.result) entry ∙ ap (add_product total (entry_by columns c.args.row j)) x in
     p.1 ∙ ap Err p.2
     ∙ each_stops _ (length columns) j (λ j (t : Fraction). add_product t (entry_by columns c.args.row j) (get values j)) total c.in_err-total.field-0.0
@@ -34,7 +34,7 @@ loop-j-preserved c =
     let total = c.loop-j.total in
     let k = member_read (λ (d : Column). at d.entries c.args.row) zero_f columns j c.index-columns-j.result c.loop-j-test.true c.index-columns-j.is in
     let x = get_is values j c.index-values-j.result (subst (λ n. j < n) (sym c.requires.values) c.loop-j-test.true) c.index-values-j.is in
-    let entry = c.entry_at-entry.ensures ∙ ap (λ es. at es c.args.row) c.as_slice.ensures ∙ k in
+    let entry = ap (λ es. at es c.args.row) c.as_slice.ensures ∙ k in
     let same = ap (λ z. add_product total z c.index-values-j.result) entry ∙ ap (add_product total (entry_by columns c.args.row j)) x in
     each_goes _ (length columns) j (λ j (t : Fraction). add_product t (entry_by columns c.args.row j) (get values j)) total c.in_ok-total.total
     c.loop-j.invariant c.loop-j-test.true (sym (c.in_ok-total.ensures ∙ same))
