@@ -20,8 +20,9 @@ fi
 
 # `dense`: 100 rows that ask for enough, each with an entry in each of 100 columns. `wide`: 256 rows and 4,096 columns of 16
 # entries each, as many as a model may have; a few rows ask for enough, and the others leave so much room that no plan
-# meets their sides. `none` and `ray` are as wide: in the first a row asks for something that another row forbids, in the
-# second a column earns and no row limits it.
+# meets their sides. `thin`: the same with some 10,000 entries, and each column at least 1, so that each value counts in a
+# sum. `none` and `ray` are as wide as `wide`: in the first a row asks for something that another row forbids, in the second
+# a column earns and no row limits it.
 python3 - "$folder" "$top/bench" <<'PY'
 import random
 import sys
@@ -39,14 +40,20 @@ def dense(name, size, draw):
     return name, rows, columns
 
 
-def wide(name, asking, draw):
-    count, width, entries = 256, 4096, 16
+def wide(name, asking, draw, entries=16):
+    count, width = 256, 4096
     rows = [("G" if i < asking else "L", "row%d" % i, draw.randint(5, 60) if i < asking else 10 ** 6) for i in range(count)]
     columns = []
     for j in range(width):
-        members = sorted(draw.sample(range(count), entries))
+        members = sorted(draw.sample(range(count), entries or draw.choice([2, 2, 3])))
         columns.append(("col%d" % j, draw.randint(1, 40), [("row%d" % i, draw.randint(1, 9)) for i in members]))
     return name, rows, columns
+
+
+def raised(text, columns):
+    """The text of a model with the lower bound 1 for each column."""
+    bounds = ["BOUNDS"] + [" LO set %s 1" % column for column, _, _ in columns]
+    return text.replace("ENDATA", "\n".join(bounds + ["ENDATA"]))
 
 
 def none(name, draw):
@@ -69,6 +76,9 @@ for drawn in (dense("dense", 100, random.Random(1)), wide("wide", 8, random.Rand
               ray("ray", random.Random(4))):
     with open("%s/%s.mps" % (folder, drawn[0]), "w") as file:
         file.write(models.text_of(*drawn))
+thin = wide("thin", 8, random.Random(5), None)
+with open(folder + "/thin.mps", "w") as file:
+    file.write(raised(models.text_of(*thin), thin[2]))
 PY
 
 seconds() {
@@ -88,7 +98,7 @@ ratio() {
 }
 
 wrong=0
-for name in dense wide none ray; do
+for name in dense wide thin none ray; do
     model=$folder/$name.mps answer=$folder/$name.txt cut=$folder/$name.cut
     "$program" solve "$model" >"$answer" || true
     said=$(grep -E '^answer' "$answer" || head -1 "$answer")
