@@ -4,11 +4,11 @@
 //! column goes along its entries, and a sum over a row looks the row up in each column. What is left out are operations
 //! with a zero operand, which always fit.
 
-ghost use Rattle.std.specs.Prelude.{◌≡◌, length};
+ghost use Rattle.std.specs.Prelude.{◌≡◌, ◌⊎◌, length, IfSome, IfNone};
 ghost use Rattle.std.specs.List.{All};
 ghost use Rattle.pami_linear.specs.Lists.{get};
 ghost use Rattle.pami_script.specs.Dense.{at, Rising};
-ghost use Rattle.pami_script.specs.Script.{add_product, add_dot, sub_dot};
+ghost use Rattle.pami_script.specs.Script.{add_dot, sub_dot};
 ghost use Rattle.pami_theory.specs.Form.{zero_f};
 ghost use Rattle.pami_model.specs.declared.list.Column.{Column};
 ghost use Rattle.pami_model.specs.Rules.{IsRising};
@@ -19,10 +19,11 @@ use pami_frac::{Entry, Frac, Refused};
 use pami_model::{Column, Sense};
 use pami_script::plain::{add_product, sub_product};
 
-/// The value at a row, 0 where no entry is there; found by bisection.
-fn entry_at(entries: &[Entry], row: u32) -> Frac
+/// The entry at a row, found by bisection.
+fn entry_at(entries: &[Entry], row: u32) -> Option<Frac>
     requires { IsRising entries.now }
-    ensures { result ≡ at entries.now row }
+    ensures found { IfSome result (λ entry. entry ≡ at entries.now row) }
+    ensures none { IfNone result (at entries.now row ≡ zero_f) }
 {
     let mut low = 0;
     let mut high = entries.len();
@@ -35,20 +36,21 @@ fn entry_at(entries: &[Entry], row: u32) -> Frac
         }
     }
     if low < entries.len() && entries[low].place == row {
-        return entries[low].value;
+        return Some(entries[low].value);
     }
-    Frac::zero()
+    None
 }
 
-/// The total with the entry at a row times a value. A value of 0, which most columns have, needs no entry.
-fn add_at(total: Frac, entries: &[Entry], row: u32, value: Frac) -> Result<Frac, Refused>
+/// The entry at a row, where it counts in a sum: the value that it multiplies, which in most columns is 0, isn't.
+fn entry_for(entries: &[Entry], row: u32, value: &Frac) -> Option<Frac>
     requires { IsRising entries.now }
-    ensures { result ≡ add_product total (at entries.now row) value }
+    ensures found { IfSome result (λ entry. entry ≡ at entries.now row) }
+    ensures none { IfNone result ((at entries.now row ≡ zero_f) ⊎ (value.now ≡ zero_f)) }
 {
     if value.is_zero() {
-        return Ok(total);
+        return None;
     }
-    add_product(total, entry_at(entries, row), value)
+    entry_at(entries, row)
 }
 
 /// The sum over a row, columns ascending: 0, and then each entry times the column's value.
@@ -59,7 +61,10 @@ pub(crate) fn row_sum(columns: &[Column], row: u32, values: &[Frac]) -> Result<F
 {
     let mut total = Frac::zero();
     for (j, column) in columns.iter().enumerate() {
-        total = add_at(total, column.entries.as_slice(), row, values[j])?;
+        let value = values[j];
+        if let Some(entry) = entry_for(column.entries.as_slice(), row, &value) {
+            total = add_product(total, entry, value)?;
+        }
     }
     Ok(total)
 }

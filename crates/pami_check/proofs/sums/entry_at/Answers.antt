@@ -1,5 +1,6 @@
 use Rattle.std.proofs.Common.{◌≡◌, ◌∙◌, ◌+◌, ◌-◌, ◌/◌, ◌<◌, ◌≤◌, sym, length, get_or, subst, arith}
 use Rattle.pami_frac.specs.declared.list.Entry.{Entry}
+use Rattle.pami_theory.specs.Form.{zero_f}
 use Rattle.pami_check.proofs.Sought.{skipped, past}
 use Rattle.pami_check.proofs.sums.entry_at.Goals as goal
 use Rattle.pami_check.proofs.sums.entry_at.Goals.{else-low-entries-via-then-low-entries+else-entries-low, else-low-entries-via-else-low-entries}
@@ -18,14 +19,14 @@ loop-low-preserved-then-entries-middle c =
     let below : (get_or es m e).place < c.args.row = c.if-entries-middle.true in
     (omega arith, most, skipped es m c.args.row e c.requires inside below, inv.3)
 
-pub returns : goal.returns
-returns c =
+pub returns-clause-none : goal.returns-clause-none
+returns-clause-none c =
     let es = c.args.entries.now in
     let l = c.loop-low.low in
     let h = c.loop-low.high in
     let inv = c.loop-low.invariant in
     let same : h ≡ l = (let a = inv.0 in let b = c.loop-low-test.false in omega (arith, a, b)) in
-    c.zero.ensures ∙ sym (inv.2 ∙ elim c.else-low-entries.branch [
+    inv.2 ∙ elim c.else-low-entries.branch [
       | else-low-entries-via-then-low-entries+else-entries-low w ↦
           let e = w.index-entries-low.result in
           past es l c.args.row e c.requires (λ b.
@@ -35,6 +36,6 @@ returns c =
           omega (arith, k, n))
       | else-low-entries-via-else-low-entries w ↦ (
           let b = w.if-low-entries.false in
-          let none : Entry = record { place = 0; value = c.zero.result } in
+          let none : Entry = record { place = 0; value = zero_f } in
           past es l c.args.row none c.requires (λ k. absurd (omega (arith, b, k))))
-    ])
+    ]
