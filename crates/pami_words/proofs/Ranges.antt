@@ -6,7 +6,7 @@ use Rattle.pami_frac.specs.Answers.{FollowsBy}
 use Rattle.pami_frac.specs.Decimal.{are_digits, number_after, before, onward}
 use Rattle.pami_words.specs.declared.command.BadWords.{BadWords}
 use Rattle.pami_words.specs.declared.command.Command.{Command}
-use Rattle.pami_words.specs.declared.command.Command.TheVariants.{Solve}
+use Rattle.pami_words.specs.declared.command.Command.TheVariants.{Solve, Check}
 use Rattle.pami_words.specs.declared.item.Item.{Item}
 use Rattle.pami_words.specs.declared.item.Item.TheVariants.{Plain, Given}
 use Rattle.pami_words.specs.declared.item.Reading.{Reading}
@@ -212,10 +212,18 @@ solve_in_range : (file : Option (List ℕ)) (lp : List ℕ → Bool) (limit : �
 solve_in_range None lp limit h = tt
 solve_in_range (Some file) lp limit h = h
 
+check_in_range : (file cert : Option (List ℕ)) (lp : List ℕ → Bool) →
+    OneInRange (option_and_then (λ f. option_map (λ c. Check f c (lp f)) cert) file)
+check_in_range None cert lp = tt
+check_in_range (Some file) None lp = tt
+check_in_range (Some file) (Some cert) lp = tt
+
 asked_in_range : (name : CommandName) (items : List Item) → AreTaken items → OneInRange (asked_by name items)
 asked_in_range names.Solve items h =
     solve_in_range (word_at 0 items) (λ f. lp_or f (first_value options.Format items)) (number_or default_limit (first_value options.Limit items))
     (head_small (values_of options.Limit items) (limits_small items h))
+asked_in_range names.Check items h =
+    check_in_range (word_at 0 items) (word_at 1 items) (λ f. lp_or f (first_value options.Format items))
 
 by_in_range : (name : CommandName) (items : List Item) → AreTaken items → OneInRange (command_by name items)
 by_in_range name items h = go (are_for (command_row name) items)

@@ -3,7 +3,7 @@ use Rattle.std.specs.Prelude.{ℕ, Bool, List, [], ◌∷◌, Option, None, Some
 use Rattle.std.specs.Str.{bytes_eq}
 pub use Rattle.pami_method.specs.Walk.{greatest_limit}
 use Rattle.pami_words.specs.declared.table.CommandName.{CommandName}
-use Rattle.pami_words.specs.declared.table.CommandName.TheVariants.{Solve}
+use Rattle.pami_words.specs.declared.table.CommandName.TheVariants.{Solve, Check}
 use Rattle.pami_words.specs.declared.table.OptionName.{OptionName}
 use Rattle.pami_words.specs.declared.table.OptionName.TheVariants.{Limit, Format}
 use Rattle.pami_words.specs.declared.table.Takes.{Takes}
@@ -28,11 +28,12 @@ pub record OptionRow : Type 0 where
 
 -- all commands
 abbrev pub commands : List CommandName
-commands = Solve ∷ []
+commands = Solve ∷ Check ∷ []
 
 -- the row of a command
 abbrev pub command_row : CommandName → CommandRow
 command_row Solve = record { word = codes "solve"; plain = 1; options = Format ∷ Limit ∷ [] }
+command_row Check = record { word = codes "check"; plain = 2; options = Format ∷ [] }
 
 -- the row of an option
 abbrev pub option_row : OptionName → OptionRow

@@ -6,7 +6,7 @@ use Rattle.std.specs.Prelude.{ℕ, ◌-◌, ◌≤◌, Bool, true, ◌&&◌, Lis
 use Rattle.std.specs.Str.{str_eq_ignore_ascii_case}
 use Rattle.pami_words.specs.declared.command.BadWords.{BadWords}
 use Rattle.pami_words.specs.declared.command.Command.{Command}
-use Rattle.pami_words.specs.declared.command.Command.TheVariants.{Solve}
+use Rattle.pami_words.specs.declared.command.Command.TheVariants.{Solve, Check}
 use Rattle.pami_words.specs.declared.item.Item.{Item}
 use Rattle.pami_words.specs.declared.item.Item.TheVariants.{Plain, Given}
 use Rattle.pami_words.specs.declared.table.CommandName.{CommandName}
@@ -76,9 +76,16 @@ solve_asked items =
     option_map (λ file. Solve file (lp_or file (first_value options.Format items)) (number_or default_limit (first_value options.Limit items)))
     (word_at 0 items)
 
+-- `check` takes FILE, its format, and CERT, the second of the plain words
+abbrev pub check_asked : List Item → Option Command
+check_asked items =
+    option_and_then (λ file. option_map (λ cert. Check file cert (lp_or file (first_value options.Format items))) (word_at 1 items))
+    (word_at 0 items)
+
 -- what a command is asked by the items of its row
 abbrev pub asked_by : CommandName → List Item → Option Command
 asked_by names.Solve items = solve_asked items
+asked_by names.Check items = check_asked items
 
 abbrev pub command_by : CommandName → List Item → Option Command
 command_by name items = if are_for (command_row name) items then asked_by name items else None
@@ -94,3 +101,4 @@ read_outcome (word ∷ words) = or_bad (option_and_then (command_of words) (comm
 -- what is asked is in its range
 abbrev pub IsInRange : Command → Type 0
 IsInRange (Solve file lp limit) = limit ≤ greatest_limit
+IsInRange (Check file cert lp) = Unit {0}

@@ -10,6 +10,9 @@ pub enum Command {
     /// Solve the model of FILE, which is in the CPLEX LP format where `lp` says so and else in MPS, with at most `limit`
     /// pivots.
     Solve { file: Word, lp: bool, limit: u32 },
+    /// Check the certificate of CERT against the model of FILE, which is in the CPLEX LP format where `lp` says so and
+    /// else in MPS.
+    Check { file: Word, cert: Word, lp: bool },
 }
 
 /// The words stand in no row of the table.

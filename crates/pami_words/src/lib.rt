@@ -7,10 +7,11 @@
 //! its arms in `table.rt`, and for a command a variant of `Command` with what it is asked in `read.rt`.
 //!
 //! ```
-//! /// How many pivots the words allow.
-//! fn pivots_allowed(alloc: Global, words: &[Word]) -> Result<u32, Fault<BadWords>> {
+//! /// The name of the model file that the words ask for.
+//! fn model_file(alloc: Global, words: &[Word]) -> Result<Word, Fault<BadWords>> {
 //!     match read_words(alloc, words)? {
-//!         Command::Solve { file: _, lp: _, limit } => Ok(limit),
+//!         Command::Solve { file, lp: _, limit: _ } => Ok(file),
+//!         Command::Check { file, cert: _, lp: _ } => Ok(file),
 //!     }
 //! }
 //! ```

@@ -215,6 +215,23 @@ fn solve_asked(alloc: Global, items: &[Item]) -> Result<Command, Fault<BadWords>
     })
 }
 
+/// What `check` is asked by items that are its own.
+///
+/// # Errors
+///
+/// `Named` exactly where there are fewer than two plain words. `OutOfMemory` where memory runs out.
+fn check_asked(alloc: Global, items: &[Item]) -> Result<Command, Fault<BadWords>>
+    ensures { FollowsBy (λ command. command) (or_bad (asked.check_asked items.now)) result }
+{
+    let file = word_at(items, 0).ok_or(BadWords)?;
+    let cert = word_at(items, 1).ok_or(BadWords)?;
+    Ok(Command::Check {
+        file: file.copy(alloc)?,
+        cert: cert.copy(alloc)?,
+        lp: lp_or(file.as_slice(), first_value(items, OptionName::Format)),
+    })
+}
+
 /// What a command is asked by these items, if they are its own.
 ///
 /// # Errors
@@ -228,6 +245,7 @@ fn command_by(alloc: Global, name: CommandName, items: &[Item]) -> Result<Comman
     }
     match name {
         CommandName::Solve => solve_asked(alloc, items),
+        CommandName::Check => check_asked(alloc, items),
     }
 }
 

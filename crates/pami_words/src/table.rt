@@ -12,6 +12,7 @@ pub const DEFAULT_LIMIT: u32 = 100_000;
 #[derive(Clone, Copy, Debug, PartialEq, Eq)]
 pub enum CommandName {
     Solve,
+    Check,
 }
 
 /// An option, by its word.
@@ -33,10 +34,13 @@ pub enum Takes {
 }
 
 /// All commands.
-const COMMANDS: [CommandName; 1] = [CommandName::Solve];
+const COMMANDS: [CommandName; 2] = [CommandName::Solve, CommandName::Check];
 
 /// The options of `solve`.
 const SOLVE_OPTIONS: [OptionName; 2] = [OptionName::Format, OptionName::Limit];
+
+/// The options of `check`.
+const CHECK_OPTIONS: [OptionName; 1] = [OptionName::Format];
 
 impl CommandName {
     /// The first word of a call.
@@ -45,6 +49,7 @@ impl CommandName {
     {
         match self {
             CommandName::Solve => b"solve",
+            CommandName::Check => b"check",
         }
     }
 
@@ -54,6 +59,7 @@ impl CommandName {
     {
         match self {
             CommandName::Solve => 1,
+            CommandName::Check => 2,
         }
     }
 
@@ -63,6 +69,7 @@ impl CommandName {
     {
         match self {
             CommandName::Solve => &SOLVE_OPTIONS,
+            CommandName::Check => &CHECK_OPTIONS,
         }
     }
 

@@ -19,20 +19,34 @@ fn words(alloc: Global, texts: &[&str]) -> Result<Vec<Word>, Fail> {
 }
 
 /// The caller that the crate's head shows.
-fn pivots_allowed(alloc: Global, words: &[Word]) -> Result<u32, Fault<BadWords>> {
+fn model_file(alloc: Global, words: &[Word]) -> Result<Word, Fault<BadWords>> {
     match read_words(alloc, words)? {
         Command::Solve {
-            file: _,
+            file,
             lp: _,
-            limit,
-        } => Ok(limit),
+            limit: _,
+        } => Ok(file),
+        Command::Check {
+            file,
+            cert: _,
+            lp: _,
+        } => Ok(file),
     }
 }
 
 #[test]
 fn a_caller_takes_what_is_asked(rt: HostRuntime) -> Result<(), Fail> {
-    let given = words(rt.alloc(), &["solve", "m.mps", "--limit", "7"])?;
-    assert!(rt; matches!(pivots_allowed(rt.alloc(), given.as_slice()), Ok(7)));
+    let rows: [&[&str]; 2] = [
+        &["solve", "m.mps", "--limit", "7"],
+        &["check", "m.mps", "m.cert"],
+    ];
+    for texts in rows {
+        let given = words(rt.alloc(), texts)?;
+        let Ok(file) = model_file(rt.alloc(), given.as_slice()) else {
+            return Err(Fail::from("words of the table"));
+        };
+        assert!(rt; file.is(b"m.mps"));
+    }
     Ok(())
 }
 
@@ -120,14 +134,60 @@ fn formats_of_solve(rt: HostRuntime) -> Result<(), Fail> {
     Ok(())
 }
 
+/// FILE stands before CERT, wherever the option stands.
+#[test]
+fn words_of_check(rt: HostRuntime) -> Result<(), Fail> {
+    let alloc = rt.alloc();
+    let rows: [(&[&str], &str, &str, bool); 12] = [
+        (&["check", "m.mps", "c"], "m.mps", "c", false),
+        (&["check", "m.lp", "c.mps"], "m.lp", "c.mps", true),
+        (&["check", "m.mps", "c.lp"], "m.mps", "c.lp", false),
+        (&["check", "-", "-"], "-", "-", false),
+        (&["check", "check", "solve"], "check", "solve", false),
+        (&["check", "--format", "lp", "m", "c"], "m", "c", true),
+        (&["check", "m", "--format=lp", "c"], "m", "c", true),
+        (
+            &["check", "m.lp", "c", "--format", "mps"],
+            "m.lp",
+            "c",
+            false,
+        ),
+        (&["check", "--", "m", "c"], "m", "c", false),
+        (&["check", "m", "--", "--format"], "m", "--format", false),
+        (&["check", "m", "c", "--"], "m", "c", false),
+        (
+            &["check", "--format=mps", "--", "-m.lp", "--"],
+            "-m.lp",
+            "--",
+            false,
+        ),
+    ];
+    for (texts, file, cert, format) in rows {
+        let words = words(alloc, texts)?;
+        let Ok(
+            Command::Check {
+                file: model,
+                cert: checked,
+                lp,
+            },
+        ) = read_words(alloc, words.as_slice())
+        else {
+            return Err(Fail::from("words of the table"));
+        };
+        assert!(rt; model.is(file.as_bytes()), "FILE {file}");
+        assert!(rt; checked.is(cert.as_bytes()), "CERT {cert}");
+        assert_eq!(rt; lp, format);
+    }
+    Ok(())
+}
+
 #[test]
 fn words_outside_the_table(rt: HostRuntime) -> Result<(), Fail> {
     let alloc = rt.alloc();
-    let rows: [&[&str]; 60] = [
+    let rows: [&[&str]; 70] = [
         &[],
         &["solve"],
         &["m.mps"],
-        &["check", "m.mps"],
         &["Solve", "m.mps"],
         &["solv", "m.mps"],
         &["m.mps", "solve"],
@@ -181,6 +241,18 @@ fn words_outside_the_table(rt: HostRuntime) -> Result<(), Fail> {
         &["solve", "m.lp", "--format=mps", "--format=lp"],
         &["solve", "m.lp", "--format", "-lp"],
         &["solve", "m.lp", "--form=lp"],
+        // CERT: none, a third word, an empty one, or like an option; no limit, and the format once.
+        &["check"],
+        &["check", "m.mps"],
+        &["check", "m.mps", "c", "c"],
+        &["check", "m.mps", ""],
+        &["check", "", "c"],
+        &["check", "m.mps", "-c"],
+        &["check", "m.mps", "--format", "lp"],
+        &["check", "m.mps", "c", "--limit", "5"],
+        &["check", "m.mps", "c", "--limit=5"],
+        &["check", "m.mps", "c", "--format=lp", "--format=lp"],
+        &["Check", "m.mps", "c"],
         // No abbreviations, and no other options.
         &["solve", "m.mps", "--lim", "5"],
         &["solve", "m.mps", "--limits", "5"],
