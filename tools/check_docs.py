@@ -11,7 +11,8 @@
 4. The arrows of a mermaid picture are what each crate stands on, by crates.txt, without what follows from other arrows.
 5. A fenced block with lines `$ ./pami WORDS` shows runs: behind each such line stands the output, and behind that a line
    (status N). A line of three dots stands for any lines. Each is run in the top folder and has to print just that.
-6. The table of docs/FORMATS.md whose first column is Kind has the kinds of file faults that the sources tell, and no others.
+6. The tables of docs/FORMATS.md whose first columns are Kind and Fault have the kinds of file faults and those of faults of
+   certificates that the sources tell, that of docs/CHECKING.md the conditions of verdicts, and no others.
 
 check_docs.py [PROGRAM]. Ends with 1 where something differs. Where there is no program, it says so and leaves 5 out.
 """
@@ -38,8 +39,13 @@ FOREIGN = set(
     """.split()
 )
 
-# A kind that is told of a model that was read, and those that only formats have which aren't read yet.
-MORE_KINDS, LATER_KINDS = {"width"}, set()
+# The tables of words: the page, how the table begins, the column with the words, the file that has them, and words that are told
+# elsewhere: a kind that is told of a model that was read.
+TABLES = [
+    ("docs/FORMATS.md", "| Kind |", 1, "crates/pami_model/specs/KindWords.antt", {"width"}),
+    ("docs/FORMATS.md", "| Fault |", 1, "crates/pami_cert/specs/CertKinds.antt", set()),
+    ("docs/CHECKING.md", "| Certificate | CONDITION |", 2, "crates/pami_check/specs/ConditionWords.antt", set()),
+]
 
 WORD = re.compile(r"[A-Za-z_][A-Za-z_0-9]*")
 SPAN = re.compile(r"`([^`]+)`")
@@ -216,21 +222,25 @@ def wrong_pictures(blocks):
                 yield number, f"the picture's {one} --> {other}"
 
 
-def wrong_kinds(page, outside, files):
-    """The kinds of file faults that the table of FORMATS.md lacks or has too many, by the definition of their words."""
-    words = [it for it in files if it.endswith("/KindWords.antt")]
-    if page != "docs/FORMATS.md" or not words:
-        return
-    due = set(re.findall(r'codes "([a-z-]+)"', text_of(words[0]))) | MORE_KINDS
-    begin = [at for at, (_, line) in enumerate(outside) if line.startswith("| Kind |")]
+def wrong_table(outside, title, column, path, more):
+    """The words that a table lacks or has too many, by the definition of these words."""
+    due = set(re.findall(r'codes "([a-z-]+)"', text_of(path))) | more
+    begin = [at for at, (_, line) in enumerate(outside) if line.startswith(title)]
     found = set()
     for _, line in outside[begin[0] + 2 :] if begin else []:
         if not line.startswith("|"):
             break
-        found.update(SPAN.findall(line.split("|")[1]))
+        found.update(SPAN.findall(line.split("|")[column]))
     number = outside[begin[0]][0] if begin else 1
-    for kind in sorted(found ^ (due - LATER_KINDS)):
-        yield number, f"the kind {kind} in the table of kinds"
+    for word in sorted(found ^ due):
+        yield number, f"the word {word} in the table that begins with {title}"
+
+
+def wrong_kinds(page, outside, files):
+    """What is wrong with the tables of words of a page."""
+    for where, title, column, path, more in TABLES:
+        if where == page and path in files:
+            yield from wrong_table(outside, title, column, path, more)
 
 
 def runs(block):

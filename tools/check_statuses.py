@@ -1,6 +1,7 @@
 #!/usr/bin/env python3
-"""Runs the built program for each status that it may end with and for each kind of refused file, and compares status,
-standard output and standard error with what docs/FORMATS.md says. Every text was worked out from that document by hand.
+"""Runs the built program for each status that it may end with, for each kind of refused file and for each kind of text that
+is no certificate, and compares status, standard output and standard error with what docs/FORMATS.md says. Every text was
+worked out from that document by hand. Each text of `solve` that has a certificate is checked too.
 
 check_statuses.py [PROGRAM]. Ends with 1 where something differs. Where there is no program, it says so and ends with 0.
 """
@@ -218,6 +219,12 @@ basis L -
 # The column's bounds are 10^-38 and 10^19, whose distance doesn't fit.
 WIDE_BOX = GOOD.replace("ENDATA", "BOUNDS\n LO x 1e-38\n UP x 1e19\nENDATA")
 MOST_BYTES = 16777216
+# 1 - (-1) 2 is 3, which asks for x at its lower bound.
+SIGN = GOOD_TEXT.replace("x x 2 0", "x x 2 3").replace("r r 4 1/2", "r r 4 -1")
+# 2 (2^127 - 1) doesn't fit.
+LARGE = GOOD_TEXT.replace("objective 2", "objective wide").replace("x x 2 0", f"x x {2**127 - 1} 0")
+# The combination is at least 4, and no x is at most that large.
+NO_LIMIT = "certificate 1 infeasible\nr r 1\nend\n"
 FILES = {
     "good.mps": GOOD,
     "infeasible.mps": INFEASIBLE,
@@ -238,6 +245,19 @@ FILES = {
     "long.mps": 200000 * ("*" + 40 * " " + "\n") + GOOD,
     "longest.mps": GOOD + (MOST_BYTES - len(GOOD)) * "*",
     "too_long.mps": GOOD + (MOST_BYTES + 1 - len(GOOD)) * "*",
+    "good.txt": GOOD_TEXT,
+    "infeasible.txt": INFEASIBLE_TEXT,
+    "falling.txt": FALLING_TEXT,
+    "sign.txt": SIGN,
+    "objective.txt": GOOD_TEXT.replace("objective 2", "objective 3"),
+    "large.txt": LARGE,
+    "no_limit.txt": NO_LIMIT,
+    "name.txt": GOOD_TEXT.replace("x x 2 0", "x y 2 0"),
+    "word.txt": GOOD_TEXT.replace("x x 2 0", "x x 2  0"),
+    "number.txt": GOOD_TEXT.replace("x x 2 0", "x x 4/2 0"),
+    "cut.txt": GOOD_TEXT[:GOOD_TEXT.index("end")],
+    "longest.txt": GOOD_TEXT + (MOST_BYTES - len(GOOD_TEXT)) * "*",
+    "too_long.txt": GOOD_TEXT + (MOST_BYTES + 1 - len(GOOD_TEXT)) * "*",
 }
 BAD_WORDS, READ_FAULT = "bad words\n", "read fault\n"
 NO_TEXT = b"\xff"
@@ -276,6 +296,27 @@ ROWS = [
     ("a number that doesn't fit", ["solve", "wide.mps"], 13, WIDE_TEXT),
     ("a start that doesn't fit", ["solve", "start.mps"], 13, START_TEXT),
     ("a cost that falls without end", ["solve", "falling.mps"], 11, FALLING_TEXT),
+    ("a certificate", ["check", "good.mps", "good.txt"], 0, "valid\n"),
+    ("a certificate of an LP file by an option", ["check", "lp.txt", "--format=lp", "good.txt"], 0, "valid\n"),
+    ("a certificate of infeasibility", ["check", "infeasible.mps", "infeasible.txt"], 0, "valid\n"),
+    ("a certificate of dual infeasibility", ["check", "falling.mps", "falling.txt"], 0, "valid\n"),
+    ("a certificate of 16,777,216 bytes", ["check", "good.mps", "longest.txt"], 0, "valid\n"),
+    ("a wrong sign", ["check", "good.mps", "sign.txt"], 20, "invalid sign x:x\n"),
+    ("a wrong objective", ["check", "good.mps", "objective.txt"], 20, "invalid objective -\n"),
+    ("a bound that there isn't", ["check", "good.mps", "no_limit.txt"], 20, "invalid finite x:x\n"),
+    ("another model's certificate", ["check", "infeasible.mps", "good.txt"], 20, "invalid row r:r\n"),
+    ("a product that doesn't fit", ["check", "good.mps", "large.txt"], 21, f"unchecked row r:r mul 2 {2**127 - 1}\n"),
+    ("a model in place of a certificate", ["check", "good.mps", "good.mps"], 22, "malformed 9 none\n"),
+    ("another name", ["check", "good.mps", "name.txt"], 22, "malformed 9 name\n"),
+    ("a blank too much", ["check", "good.mps", "word.txt"], 22, "malformed 9 word\n"),
+    ("a number that isn't in lowest terms", ["check", "good.mps", "number.txt"], 22, "malformed 9 number\n"),
+    ("a certificate without its end", ["check", "good.mps", "cut.txt"], 22, "malformed 11 end-missing\n"),
+    ("a certificate of 16,777,217 bytes", ["check", "good.mps", "too_long.txt"], 22, "malformed 0 too-long\n"),
+    ("a check without a certificate", ["check", "good.mps"], 2, BAD_WORDS),
+    ("a check with a limit", ["check", "good.mps", "good.txt", "--limit", "1"], 2, BAD_WORDS),
+    ("a certificate that isn't there", ["check", "good.mps", "missing.txt"], 4, READ_FAULT),
+    ("a refused file before its certificate", ["check", "lp.txt", "missing.txt"], 3, "refused 1 section\n"),
+    ("a width before a certificate", ["check", "wide_box.mps", "missing.txt"], 3, "refused 0 width x:x\n"),
 ]
 
 
@@ -321,6 +362,18 @@ def refusals(program, folder):
     return wrong
 
 
+def own_texts(program, folder):
+    """Each text of `solve` with a certificate is checked against its file. Answers what isn't valid."""
+    wrong = []
+    for title, words, status, text in ROWS:
+        if words[:1] == ["solve"] and status in (0, 10, 11):
+            with open(f"{folder}/own.txt", "w", encoding="utf-8") as it:
+                it.write(text)
+            ran = run(program, folder, ["check", *words[1:], "own.txt"])
+            wrong.append(differs(f"the check of {title}", ran, 0, "valid\n"))
+    return wrong
+
+
 def write_fault(program, folder):
     """Nothing can be written to /dev/full, so the answer is status 5. What it took can't be read again."""
     if not os.path.exists("/dev/full"):
@@ -355,6 +408,7 @@ def main(program=PROGRAM):
                 it.write(text)
         bad = [differs(title, run(program, folder, words), status, text) for title, words, status, text in ROWS]
         bad += refusals(program, folder)
+        bad += own_texts(program, folder)
         bad += [write_fault(program, folder), want_of_memory(program, folder)]
     print(f"check_statuses: {len(bad) - sum(bad)} calls as they should be, {sum(bad)} not")
     return int(any(bad))

@@ -1,7 +1,10 @@
 pub mod Answers
 pub mod Readings
+pub mod Checks
 pub mod Runs
+pub mod CheckRuns
 pub mod Lines
+pub mod Certs
 pub mod Objectives
 pub mod Listed
 pub mod Statuses

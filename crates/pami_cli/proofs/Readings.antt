@@ -1,5 +1,7 @@
 -- Model files in each format: bytes have one model, or one first fault, and not both.
-use Rattle.std.proofs.Common.{◌≡◌, ℕ, ◌<◌, List, length, refl}
+use Rattle.std.proofs.lemmas.List.{length-replicate}
+use Rattle.std.proofs.Common.{suc, ◌≡◌, ℕ, ◌<◌, List, length, Option, None, Some, refl, arith, replicate}
+use Rattle.pami_edge.specs.Outside.{Files, HasFile, HasLongFile}
 use Rattle.pami_model.specs.declared.fault.FileFault.{FileFault}
 use Rattle.pami_model.specs.declared.fault.FileKind.TheVariants as kinds
 use Rattle.pami_model.specs.Contents.{Contents}
@@ -28,3 +30,16 @@ long_fault = record { line = 0; kind = kinds.TooLong }
 pub long_first : (format : Format) (bytes : List ℕ) → byte_limit < length bytes → IsFirstFaultOf format bytes long_fault
 long_first AsMps bytes l = mps.too_long bytes l
 long_first AsLp bytes l = TooLong l refl
+
+-- some list is longer than any number
+long_list : (n : ℕ) → (bytes : List ℕ) × (n < length bytes)
+long_list n = (replicate (suc n) 0, rw length-replicate (omega arith))
+
+-- a file that is too long has bytes, which are too many
+pub long_bytes : (files : Option Files) (name : List ℕ) (most : ℕ) → HasLongFile files name most → (bytes : List ℕ) × (HasFile files name bytes × (most < length bytes))
+long_bytes None name most h = let long = long_list most in (long.0, (tt, long.1))
+long_bytes (Some files) name most h = (h.0, (h.1, h.2))
+
+pub long_file : (format : Format) (files : Option Files) (name : List ℕ) → HasLongFile files name byte_limit
+    → (bytes : List ℕ) × (HasFile files name bytes × IsFirstFaultOf format bytes long_fault)
+long_file format files name h = let long = long_bytes files name byte_limit h in (long.0, (long.1.0, long_first format long.0 long.1.1))

@@ -1,14 +1,13 @@
 -- What a call has to write, and that it is one text.
-use Rattle.std.proofs.lemmas.List.{length-replicate}
-use Rattle.std.proofs.Common.{suc, ◌≡◌, ℕ, ◌<◌, ◌⊎◌, inl, inr, Bool, List, length, Option, None, Some, Result, Ok, Err, refl, sym, ap, ◌∙◌, subst, arith, replicate}
+use Rattle.std.proofs.Common.{◌≡◌, ℕ, ◌⊎◌, inl, inr, Bool, List, None, Some, Result, Ok, Err, sym, ap, ◌∙◌, subst}
 use Rattle.std.specs.Result.{IfOk, OnErr}
 use Rattle.pami_algebra.specs.Fraction.{Fraction}
 use Rattle.pami_frac.specs.declared.fault.OutOfMemory.{OutOfMemory}
 use Rattle.pami_edge.specs.Outside.{Files, HasFile, HasLongFile}
-use Rattle.pami_edge.specs.Calls.{ShelfFailed, SinkFailed, Wrote, WroteNothing}
+use Rattle.pami_edge.specs.Calls.{SinkCall, ShelfFailed, SinkFailed, Wrote, WroteNothing}
 use Rattle.pami_words.specs.declared.command.BadWords.{BadWords}
 use Rattle.pami_words.specs.declared.command.Command.{Command}
-use Rattle.pami_words.specs.declared.command.Command.TheVariants.{Solve}
+use Rattle.pami_words.specs.declared.command.Command.TheVariants.{Solve, Check}
 use Rattle.pami_model.specs.Contents.{Contents}
 use Rattle.pami_model.specs.declared.fault.FileFault.{FileFault}
 use Rattle.pami_model.specs.Rules.{byte_limit}
@@ -19,20 +18,17 @@ use Rattle.pami_cli.specs.declared.status.Status.TheVariants as statuses
 use Rattle.pami_cli.specs.declared.answer.Answer.{Answer}
 use Rattle.pami_cli.specs.Text.{refused_text}
 use Rattle.pami_cli.specs.Reading.{Format, format_by, IsTextOf, IsFirstFaultOf}
-use Rattle.pami_cli.specs.Answer.{AnswersModel, AnswersWide}
-use Rattle.pami_cli.specs.Run.{Answers, IsModelAnswer, IsRefused, Refuses, IsFileRefused, IsAnswered, IsDue, IsWrittenBy, IsComplete, Call, AskFor, AreBad, Ends, IsOrFault}
+use Rattle.pami_cli.specs.Answer.{AnswersModel}
+use Rattle.pami_cli.specs.Run.{Answers, IsModelAnswer, Refuses, Checks, ChecksText, CommandAnswers, file_of, format_of, IsFileRefused, IsAnswered, IsDue, IsWrittenBy, EndsBy, IsComplete, Call, AskFor, AreBad, Ends, IsOrFault}
 use Rattle.pami_cli.proofs.Answers.{one_model_answer, refused_model_is_wide, dual_infeasible_model}
-use Rattle.pami_cli.proofs.Readings.{one_text, one_refusal, text_or_fault, long_fault, long_first}
+use Rattle.pami_cli.proofs.Readings.{one_text, one_refusal, text_or_fault, long_fault, long_file}
+use Rattle.pami_cli.proofs.Checks.{some_same, one_check, check_refuses}
 
-some_same : {A : Type 0} {x y : A} → Some x ≡ Some y → x ≡ y
-some_same e = cc
+-- words ask for one command, and not as well for none
+same_asked : {a b : Command} → ◌≡◌ {A = Result Command BadWords} (Ok a) (Ok b) → a ≡ b
+same_asked e = cc
 
--- words ask for one thing, and not as well for nothing
-same_asked : {file other : List ℕ} {lp format : Bool} {limit most : ℕ} → ◌≡◌ {A = Result Command BadWords} (Ok (Solve file lp limit)) (Ok (Solve other format most))
-    → (file ≡ other) × ((lp ≡ format) × (limit ≡ most))
-same_asked e = (cc, (cc, cc))
-
-bad_asked : {bad : BadWords} {file : List ℕ} {lp : Bool} {limit : ℕ} → ◌≡◌ {A = Result Command BadWords} (Err bad) (Ok (Solve file lp limit)) → ⊥
+bad_asked : {bad : BadWords} {a : Command} → ◌≡◌ {A = Result Command BadWords} (Err bad) (Ok a) → ⊥
 bad_asked e = cc
 
 -- a model's answer is that of its text
@@ -47,28 +43,24 @@ pub refused_ok : (format : Format) (bytes : List ℕ) (limit : ℕ) (fault : Fil
 refused_ok format bytes limit fault (Ok a) first e w = inr (record { fault = fault; first = first; status_is = e; written_is = w })
 refused_ok format bytes limit fault (Err x) first e w = tt
 
--- some list is longer than any number
-long_list : (n : ℕ) → (bytes : List ℕ) × (n < length bytes)
-long_list n = (replicate (suc n) 0, rw length-replicate (omega arith))
+-- an answer that memory may have run out for was written as far as may be
+pub answer_ends : {Due : Status → List ℕ → Type 0} (sink : SinkCall) (result : Status) (r : Result Answer OutOfMemory) → IfOk r (λ a. Due a.status a.text.items)
+    → IfOk r (λ a. IsWrittenBy sink result a.status a.text.items) → OnErr r ((result ≡ statuses.OutOfMemory) × WroteNothing sink) → EndsBy Due sink result
+answer_ends sink result (Ok a) d w n = inr (record { due = a.status; written = a.text.items; is_due = d; as_far = w })
+answer_ends sink result (Err e) d w n = inl n
 
--- a file that is too long has bytes, with that fault
-long_file : (format : Format) (files : Option Files) (name : List ℕ) → HasLongFile files name byte_limit
-    → (bytes : List ℕ) × (HasFile files name bytes × IsFirstFaultOf format bytes long_fault)
-long_file format None name h = let long = long_list byte_limit in (long.0, (tt, long_first format long.0 long.1))
-long_file format (Some files) name h = (h.0, (h.1, long_first format h.0 h.2))
+-- what is due by one rule is due by another
+pub ends_too : {D E : Status → List ℕ → Type 0} (sink : SinkCall) (result : Status) → ((s : Status) (w : List ℕ) → D s w → E s w) → EndsBy D sink result → EndsBy E sink result
+ends_too sink result h (inl o) = inl o
+ends_too sink result h (inr w) = inr (record { due = w.due; written = w.written; is_due = h w.due w.written w.is_due; as_far = w.as_far })
 
--- a call ends with what it wrote of an answer
-module _ (k : Call) (result : Status) (file : List ℕ) (lp : Bool) (limit : ℕ) (asks : AskFor k.words file lp limit) where
-  pub ends_answered : (bytes : List ℕ) (s : Status) (t : List ℕ) → HasFile k.shelf.files file bytes → Answers (format_by lp) bytes limit s t
-      → IsWrittenBy k.sink result s t → Ends k result
-  ends_answered bytes s t h a w =
-      inr (record { due = s; written = t; is_due = inr (inr (record { file = file; lp = lp; limit = limit; bytes = bytes; asks = asks; under = h; answer = a })); as_far = w })
-
-  -- the same of an answer that memory may have run out for
+-- what `solve` answers is due
+module _ (k : Call) (result : Status) (file : List ℕ) (lp : Bool) (limit : ℕ) (asks : AskFor k.words (Solve file lp limit)) where
   pub ends_answer : (bytes : List ℕ) (r : Result Answer OutOfMemory) → HasFile k.shelf.files file bytes → IfOk r (λ a. Answers (format_by lp) bytes limit a.status a.text.items)
       → IfOk r (λ a. IsWrittenBy k.sink result a.status a.text.items) → OnErr r ((result ≡ statuses.OutOfMemory) × WroteNothing k.sink) → Ends k result
-  ends_answer bytes (Ok a) h is w n = ends_answered bytes a.status a.text.items h is w
-  ends_answer bytes (Err e) h is w n = inl n
+  ends_answer bytes r h is w n =
+      ends_too k.sink result (λ s t a. inr (inr (record { command = Solve file lp limit; bytes = bytes; asks = asks; under = h; answer = a })))
+      (answer_ends {Due = Answers (format_by lp) bytes limit} k.sink result r is w n)
 
   -- and of a file that is too long
   pub ends_long : (r : Result Answer OutOfMemory) → HasLongFile k.shelf.files file byte_limit → IfOk r (λ a. a.status ≡ statuses.File) → IfOk r (λ a. a.text.items ≡ refused_text long_fault)
@@ -101,27 +93,59 @@ module _ (format : Format) (bytes : List ℕ) (limit : ℕ) where
   no_dual_point w (inl a) c text = subst (λ m. (y d : ℕ → Fraction) → ¬ IsDualPoint (model_form m) y d) (one_text format bytes a.model c a.text_of text) (dual_infeasible_model a.model limit w a.answer)
   no_dual_point w (inr b) c text = let e = b.status_is in absurd cc
 
+-- FILE, where it is refused, is answered so by `solve` too
+refused_answer : (format : Format) (bytes : List ℕ) (limit : ℕ) (w : List ℕ) → Refuses format bytes w → Answers format bytes limit statuses.File w
+refused_answer format bytes limit w (inl r) = inr r
+refused_answer format bytes limit w (inr (c, text, wide)) = inl (record { model = c; text_of = text; answer = inr wide })
+
+one_refused : (format : Format) (bytes : List ℕ) (w v : List ℕ) → Refuses format bytes w → Refuses format bytes v → w ≡ v
+one_refused format bytes w v a b =
+    (one_answer format bytes 0 statuses.File statuses.File w v (refused_answer format bytes 0 w a) (refused_answer format bytes 0 v b)).1
+
+-- `check` has one answer, where CERT has one text
+check_once : (format : Format) (bytes : List ℕ) (under : List ℕ → Type 0) → ((x y : List ℕ) → under x → under y → x ≡ y) → (s t : Status) (w v : List ℕ)
+    → Checks format bytes under s w → Checks format bytes under t v → (s ≡ t) × (w ≡ v)
+check_once format bytes under one s t w v a b = one_check format bytes under one (one_refused format bytes) s t w v a b
+
+pub one_checked : (format : Format) (bytes text : List ℕ) (s t : Status) (w v : List ℕ) → ChecksText format bytes text s w → ChecksText format bytes text t v → (s ≡ t) × (w ≡ v)
+one_checked format bytes text s t w v a b = check_once format bytes (λ (x : List ℕ). x ≡ text) (λ x y p q. p ∙ sym q) s t w v a b
+
+-- a command has one answer on its files
+one_command_answer : (command : Command) (bytes : List ℕ) (files : Files) (s t : Status) (w v : List ℕ) → CommandAnswers command bytes (HasFile (Some files)) s w
+    → CommandAnswers command bytes (HasFile (Some files)) t v → (s ≡ t) × (w ≡ v)
+one_command_answer (Solve file lp limit) bytes files s t w v a b = one_answer (format_by lp) bytes limit s t w v a b
+one_command_answer (Check file cert lp) bytes files s t w v a b =
+    check_once (format_by lp) bytes (HasFile (Some files) cert) (λ x y p q. some_same (sym p ∙ q)) s t w v a b
+
+-- status 3 is for a FILE that is refused
+command_refuses : (command : Command) (bytes : List ℕ) (under : List ℕ → List ℕ → Type 0) (w : List ℕ) → CommandAnswers command bytes under statuses.File w
+    → Refuses (format_of command) bytes w
+command_refuses (Solve file lp limit) bytes under w a = refuses (format_by lp) bytes limit w a
+command_refuses (Check file cert lp) bytes under w a = check_refuses (format_by lp) bytes (under cert) w a
+
 -- exactly that answer, or a fault in its place
 abbrev IsExactly : Call → Status → Status → List ℕ → Type 0
 IsExactly k result s w = ((result ≡ s) × Wrote k.sink w) ⊎ IsOrFault result statuses.ReadFault
 
-module _ (k : Call) (files : Files) (file : List ℕ) (lp : Bool) (limit : ℕ) (bytes written : List ℕ) (status : Status) (told : k.shelf.files ≡ Some files) (stands : files file ≡ Some bytes) (asks : AskFor k.words file lp limit) (answer : Answers (format_by lp) bytes limit status written) where
-  same_answer : (s : Status) (w : List ℕ) (a : IsAnswered k s w) → Answers (format_by lp) bytes limit s w
+module _ (k : Call) (files : Files) (command : Command) (bytes written : List ℕ) (status : Status) (told : k.shelf.files ≡ Some files) (asks : AskFor k.words command)
+    (stands : files (file_of command) ≡ Some bytes) (answer : CommandAnswers command bytes (HasFile (Some files)) status written) where
+  same_answer : (s : Status) (w : List ℕ) (a : IsAnswered k s w) → CommandAnswers command bytes (HasFile (Some files)) s w
   same_answer s w a =
-      let n : (a.file ≡ file) × ((a.lp ≡ lp) × (a.limit ≡ limit)) = same_asked (sym a.asks ∙ asks) in
-      let h : files a.file ≡ Some a.bytes = subst (λ f. HasFile f a.file a.bytes) told a.under in
-      let b : a.bytes ≡ bytes = some_same (sym h ∙ ap files n.0 ∙ stands) in
-      subst (λ x. Answers (format_by lp) x limit s w) b
-      (subst (λ x. Answers (format_by lp) a.bytes x s w) n.1.1 (subst (λ x. Answers (format_by x) a.bytes a.limit s w) n.1.0 a.answer))
+      let e : a.command ≡ command = same_asked (sym a.asks ∙ asks) in
+      let h : files (file_of a.command) ≡ Some a.bytes = subst (λ f. HasFile f (file_of a.command) a.bytes) told a.under in
+      let b : a.bytes ≡ bytes = some_same (sym h ∙ ap (λ (x : Command). files (file_of x)) e ∙ stands) in
+      subst (λ x. CommandAnswers command x (HasFile (Some files)) s w) b
+      (subst (λ x. CommandAnswers x a.bytes (HasFile (Some files)) s w) e
+      (subst (λ f. CommandAnswers a.command a.bytes (HasFile f) s w) told a.answer))
 
   agreed : (result due : Status) (w : List ℕ) → IsAnswered k due w → (result ≡ due) × Wrote k.sink w → IsExactly k result status written
   agreed result due w d g =
-      let o = one_answer (format_by lp) bytes limit due status w written (same_answer due w d) answer in
+      let o = one_command_answer command bytes files due status w written (same_answer due w d) answer in
       inl (g.0 ∙ o.0, subst (Wrote k.sink) o.1 g.1)
 
   exactly_due : (result due : Status) (w : List ℕ) → IsDue k due w → (result ≡ due) × Wrote k.sink w → IsExactly k result status written
   exactly_due result due w (inl bad) g = absurd (bad_asked (sym bad.bad ∙ asks))
-  exactly_due result due w (inr (inl d)) g = inr (inl (g.0 ∙ d.status_is))
+  exactly_due result due w (inr (inl d)) g = inr (inl (g.0 ∙ d.fault.status_is))
   exactly_due result due w (inr (inr d)) g = agreed result due w d g
 
   pub ends_exactly : (result : Status) → Ends k result → IsExactly k result status written
@@ -132,11 +156,11 @@ module _ (k : Call) (files : Files) (file : List ℕ) (lp : Bool) (limit : ℕ) 
       go (inl g) = exactly_due result w.due w.written w.is_due g
       go (inr f) = inr (inr (inr (inl f.0)))
 
--- where the words ask for a file and neither the shelf nor the sink failed, what is due is an answer, and it was written whole
-module _ (k : Call) (file : List ℕ) (lp : Bool) (limit : ℕ) (asks : AskFor k.words file lp limit) (read : ShelfFailed k.shelf → ⊥) (wrote : SinkFailed k.sink → ⊥) where
+-- where the words ask for a command and neither the shelf nor the sink failed, what is due is an answer, and it was written whole
+module _ (k : Call) (command : Command) (asks : AskFor k.words command) (read : ShelfFailed k.shelf → ⊥) (wrote : SinkFailed k.sink → ⊥) where
   complete_due : (result due : Status) (w : List ℕ) → IsDue k due w → (result ≡ due) × Wrote k.sink w → IsComplete k result
   complete_due result due w (inl bad) g = absurd (bad_asked (sym bad.bad ∙ asks))
-  complete_due result due w (inr (inl d)) g = absurd (read d.failed)
+  complete_due result due w (inr (inl d)) g = absurd (read d.fault.failed)
   complete_due result due w (inr (inr d)) g = inr (w, subst (λ s. IsAnswered k s w) (sym g.0) d, g.1)
 
   pub ends_complete : (result : Status) → Ends k result → IsComplete k result
@@ -161,23 +185,21 @@ ends_bad_words k bad result (inr w) = go w.as_far
     go (inl g) = inl (g.0 ∙ due w.due w.written w.is_due)
     go (inr f) = inr (inl f.0)
 
--- status 3 comes only where the file is refused
+-- status 3 comes only where FILE is refused
 pub ends_refused : (k : Call) → Ends k statuses.File → IsFileRefused k
 ends_refused k (inl o) = let e = o.0 in absurd cc
 ends_refused k (inr w) = go w.as_far
   where
     at_status : (s : Status) (t : List ℕ) → s ≡ statuses.File → IsDue k s t → Wrote k.sink t → IsFileRefused k
     at_status s t e (inl d) g = let f = sym e ∙ d.status_is in absurd cc
-    at_status s t e (inr (inl d)) g = let f = sym e ∙ d.status_is in absurd cc
+    at_status s t e (inr (inl d)) g = let f = sym e ∙ d.fault.status_is in absurd cc
     at_status s t e (inr (inr d)) g = record {
-      file = d.file;
-      lp = d.lp;
-      limit = d.limit;
+      command = d.command;
       bytes = d.bytes;
       written = t;
       asks = d.asks;
       under = d.under;
-      refuses = refuses (format_by d.lp) d.bytes d.limit t (subst (λ x. Answers (format_by d.lp) d.bytes d.limit x t) e d.answer);
+      refuses = command_refuses d.command d.bytes (HasFile k.shelf.files) t (subst (λ x. CommandAnswers d.command d.bytes (HasFile k.shelf.files) x t) e d.answer);
       wrote = g;
     }
 

@@ -1,6 +1,9 @@
 pub mod Status
 pub mod Text
+pub mod CertOf
 pub mod Solved
 pub mod Reading
 pub mod Answer
+pub mod Judged
 pub mod Run
+pub mod Taken

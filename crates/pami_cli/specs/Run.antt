@@ -1,16 +1,30 @@
--- What a run answers on the words of a call and the bytes under FILE, and how a call may end.
-use Rattle.std.specs.Prelude.{◌≡◌, ℕ, ◌⊎◌, Bool, List, [], ◌∷◌, Ok, Err}
+-- What a run answers on the words of a call and the bytes under the names of its files, and how a call may end.
+use Rattle.std.specs.Prelude.{◌≡◌, ℕ, ◌⊎◌, List, [], ◌∷◌, ◌++◌, None, Ok, Err}
 use Rattle.pami_edge.specs.Outside.{HasFile}
 use Rattle.pami_edge.specs.Calls.{ShelfCall, SinkCall, ShelfFailed, SinkFailed, Wrote, WrotePart, WroteNothing}
-use Rattle.pami_words.specs.declared.command.Command.TheVariants.{Solve}
+use Rattle.pami_words.specs.declared.command.Command.{Command}
+use Rattle.pami_words.specs.declared.command.Command.TheVariants.{Solve, Check}
 use Rattle.pami_words.specs.Words.{read_outcome}
 use Rattle.pami_model.specs.declared.fault.FileFault.{FileFault}
 use Rattle.pami_model.specs.Contents.{Contents}
+use Rattle.pami_model_form.specs.ModelForm.{model_form}
+use Rattle.pami_form.specs.Widths.{first_wide}
 use Rattle.pami_cli.specs.declared.status.Status.{Status}
 use Rattle.pami_cli.specs.declared.status.Status.TheVariants.{Words, File, ReadFault, WriteFault, OutOfMemory}
 use Rattle.pami_cli.specs.Reading.{Format, format_by, IsTextOf, IsFirstFaultOf}
 use Rattle.pami_cli.specs.Answer.{AnswersModel, AnswersWide}
+use Rattle.pami_cli.specs.Judged.{Judges}
 use Rattle.pami_cli.specs.Text.{bad_words_text, refused_text, read_fault_text}
+
+-- ---- reading
+
+-- a read fault was told, and the shelf failed
+pub record TellsReadFault (shelf : ShelfCall) (status : Status) (written : List ℕ) : Type 0 where
+  pub status_is : status ≡ ReadFault
+  pub failed : ShelfFailed shelf
+  pub written_is : written ≡ read_fault_text
+
+-- ---- solve
 
 -- the bytes are a text of a model that is answered so
 pub record IsModelAnswer (format : Format) (bytes : List ℕ) (limit : ℕ) (status : Status) (written : List ℕ) : Type 0 where
@@ -25,22 +39,81 @@ pub record IsRefused (format : Format) (bytes : List ℕ) (status : Status) (wri
   pub status_is : status ≡ File
   pub written_is : written ≡ refused_text fault
 
--- what `solve` answers on the bytes of its file, read in this format, with this limit of pivots
+-- what `solve` answers on the bytes of FILE, read in this format, with this limit of pivots
 abbrev pub Answers : Format → List ℕ → ℕ → Status → List ℕ → Type 0
 Answers format bytes limit status written =
     IsModelAnswer format bytes limit status written ⊎ IsRefused format bytes status written
 
--- the file is no text of a model, or is one with a width that doesn't fit
+-- FILE is no text of a model, or is one with a width that doesn't fit
 abbrev pub Refuses : Format → List ℕ → List ℕ → Type 0
 Refuses format bytes written =
     IsRefused format bytes File written ⊎ ((c : Contents) × IsTextOf format bytes c × AnswersWide c File written)
 
--- the words ask to solve this file, which is LP or else MPS, with this limit of pivots; they are in no table
-abbrev pub AskFor : List (List ℕ) → List ℕ → Bool → ℕ → Type 0
-AskFor words file lp limit = read_outcome words ≡ Ok (Solve file lp limit)
+-- ---- check
+
+-- the bytes are a text of this model, all of whose widths fit
+pub record IsAccepted (format : Format) (bytes : List ℕ) (c : Contents) : Type 0 where
+  pub text_of : IsTextOf format bytes c
+  pub widths : first_wide (model_form c).bounds ≡ None
+
+-- FILE is accepted, and the bytes of CERT are judged against its model; `under` says which bytes these are
+pub record IsCertAnswer (format : Format) (bytes : List ℕ) (under : List ℕ → Type 0) (status : Status) (written : List ℕ) : Type 0 where
+  pub model : Contents
+  pub accepted : IsAccepted format bytes model
+  pub text : List ℕ
+  pub stands : under text
+  pub judged : Judges model text status written
+
+-- what `check` answers on the bytes of FILE, read in this format; of CERT, which isn't read where FILE is refused, `under`
+-- says which bytes it has
+abbrev pub Checks : Format → List ℕ → (List ℕ → Type 0) → Status → List ℕ → Type 0
+Checks format bytes under status written =
+    ((status ≡ File) × Refuses format bytes written) ⊎ IsCertAnswer format bytes under status written
+
+-- the same where CERT has these bytes
+abbrev pub ChecksText : Format → (bytes text : List ℕ) → Status → List ℕ → Type 0
+ChecksText format bytes text status written = Checks format bytes (λ (x : List ℕ). x ≡ text) status written
+
+-- what is due behind an accepted FILE: a read fault, or what the bytes under CERT are answered against its model
+abbrev pub IsCertDue : Contents → List ℕ → ShelfCall → Status → List ℕ → Type 0
+IsCertDue c cert shelf status written =
+    TellsReadFault shelf status written
+    ⊎ ((text : List ℕ) × HasFile shelf.files cert text × Judges c text status written)
+
+-- what is due behind the bytes of FILE: a read fault, or the answer on these and on those under CERT
+abbrev pub IsCheckDue : Format → List ℕ → List ℕ → ShelfCall → Status → List ℕ → Type 0
+IsCheckDue format bytes cert shelf status written =
+    TellsReadFault shelf status written ⊎ Checks format bytes (HasFile shelf.files cert) status written
+
+-- ---- commands
+
+-- the words ask for this command; they are in no table
+abbrev pub AskFor : List (List ℕ) → Command → Type 0
+AskFor words command = read_outcome words ≡ Ok command
 
 abbrev pub AreBad : List (List ℕ) → Type 0
 AreBad words = read_outcome words ≡ Err (record {})
+
+-- the names of the files that a command reads, in this order
+abbrev pub files_of : Command → List (List ℕ)
+files_of (Solve file lp limit) = file ∷ []
+files_of (Check file cert lp) = file ∷ cert ∷ []
+
+-- the name of FILE, and the format that it is read in
+abbrev pub file_of : Command → List ℕ
+file_of (Solve file lp limit) = file
+file_of (Check file cert lp) = file
+
+abbrev pub format_of : Command → Format
+format_of (Solve file lp limit) = format_by lp
+format_of (Check file cert lp) = format_by lp
+
+-- what a command answers on the bytes of FILE; `under` says which bytes stand under which name
+abbrev pub CommandAnswers : Command → List ℕ → (List ℕ → List ℕ → Type 0) → Status → List ℕ → Type 0
+CommandAnswers (Solve file lp limit) bytes under status written = Answers (format_by lp) bytes limit status written
+CommandAnswers (Check file cert lp) bytes under status written = Checks (format_by lp) bytes (under cert) status written
+
+-- ---- calls
 
 -- a call: its words, and what the shelf and the sink did in it
 pub record Call : Type 0 where
@@ -51,25 +124,19 @@ pub record Call : Type 0 where
 abbrev pub call : List (List ℕ) → ShelfCall → SinkCall → Call
 call words shelf sink = record { words = words; shelf = shelf; sink = sink }
 
--- the words ask for a file, and this is the answer on bytes that stand under that name
+-- the words ask for a command, and this is its answer on bytes that stand under the names of its files
 pub record IsAnswered (call : Call) (status : Status) (written : List ℕ) : Type 0 where
-  pub file : List ℕ
-  pub lp : Bool
-  pub limit : ℕ
+  pub command : Command
   pub bytes : List ℕ
-  pub asks : AskFor call.words file lp limit
-  pub under : HasFile call.shelf.files file bytes
-  pub answer : Answers (format_by lp) bytes limit status written
+  pub asks : AskFor call.words command
+  pub under : HasFile call.shelf.files (file_of command) bytes
+  pub answer : CommandAnswers command bytes (HasFile call.shelf.files) status written
 
 -- the words are in the table, and the shelf failed
 pub record IsReadFault (call : Call) (status : Status) (written : List ℕ) : Type 0 where
-  pub file : List ℕ
-  pub lp : Bool
-  pub limit : ℕ
-  pub asks : AskFor call.words file lp limit
-  pub status_is : status ≡ ReadFault
-  pub failed : ShelfFailed call.shelf
-  pub written_is : written ≡ read_fault_text
+  pub command : Command
+  pub asks : AskFor call.words command
+  pub fault : TellsReadFault call.shelf status written
 
 -- the words are in no table
 pub record AreBadWords (call : Call) (status : Status) (written : List ℕ) : Type 0 where
@@ -87,37 +154,42 @@ IsWrittenBy sink result due written =
     ((result ≡ due) × Wrote sink written)
     ⊎ ((result ≡ WriteFault) × SinkFailed sink × WrotePart sink written)
 
--- a text was due, and was written as far as the sink took it
-pub record IsWritten (call : Call) (result : Status) : Type 0 where
+-- a text that `Due` allows was written as far as the sink took it
+pub record IsWritten (Due : Status → List ℕ → Type 0) (sink : SinkCall) (result : Status) : Type 0 where
   pub due : Status
   pub written : List ℕ
-  pub is_due : IsDue call due written
-  pub as_far : IsWrittenBy call.sink result due written
+  pub is_due : Due due written
+  pub as_far : IsWrittenBy sink result due written
 
 -- memory ran out and nothing was written, or what is due was written as far as the sink took it
-abbrev pub Ends : Call → Status → Type 0
-Ends call result = ((result ≡ OutOfMemory) × WroteNothing call.sink) ⊎ IsWritten call result
+abbrev pub EndsBy : (Status → List ℕ → Type 0) → SinkCall → Status → Type 0
+EndsBy Due sink result = ((result ≡ OutOfMemory) × WroteNothing sink) ⊎ IsWritten Due sink result
 
--- memory ran out, or the answer on bytes that stand under FILE was written whole
+abbrev pub Ends : Call → Status → Type 0
+Ends call result = EndsBy (IsDue call) call.sink result
+
+-- memory ran out, or the command's answer on bytes that stand under the names of its files was written whole
 abbrev pub IsComplete : Call → Status → Type 0
 IsComplete call result = (result ≡ OutOfMemory) ⊎ ((written : List ℕ) × IsAnswered call result written × Wrote call.sink written)
 
--- the words ask for a file that is refused, on bytes that stand under its name, and this was written
+-- the words ask for a command whose FILE is refused, on bytes that stand under its name, and this was written
 pub record IsFileRefused (call : Call) : Type 0 where
-  pub file : List ℕ
-  pub lp : Bool
-  pub limit : ℕ
+  pub command : Command
   pub bytes : List ℕ
   pub written : List ℕ
-  pub asks : AskFor call.words file lp limit
-  pub under : HasFile call.shelf.files file bytes
-  pub refuses : Refuses (format_by lp) bytes written
+  pub asks : AskFor call.words command
+  pub under : HasFile call.shelf.files (file_of command) bytes
+  pub refuses : Refuses (format_of command) bytes written
   pub wrote : Wrote call.sink written
 
 -- this status, or one of the faults that may take the place of any
 abbrev pub IsOrFault : Status → Status → Type 0
 IsOrFault result status = (result ≡ status) ⊎ ((result ≡ ReadFault) ⊎ ((result ≡ WriteFault) ⊎ (result ≡ OutOfMemory)))
 
--- no name, or FILE alone
+-- a list begins with these
+abbrev pub IsFront : List (List ℕ) → List (List ℕ) → Type 0
+IsFront front names = (left : List (List ℕ)) × (front ++ left ≡ names)
+
+-- no name, or the first of those that a command reads
 abbrev pub AsksFor : List (List ℕ) → List (List ℕ) → Type 0
-AsksFor words asked = (asked ≡ []) ⊎ ((file : List ℕ) × (lp : Bool) × (limit : ℕ) × AskFor words file lp limit × (asked ≡ file ∷ []))
+AsksFor words asked = (asked ≡ []) ⊎ ((command : Command) × AskFor words command × IsFront asked (files_of command))

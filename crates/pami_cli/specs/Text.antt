@@ -1,8 +1,9 @@
 -- The texts that a run writes.
-use Rattle.std.specs.Prelude.{ℕ, List, [], ◌∷◌, ◌++◌, codes, decimal}
+use Rattle.std.specs.Prelude.{ℕ, List, [], ◌∷◌, ◌++◌, Option, None, Some, codes, decimal}
 use Rattle.std.specs.List.{flat_map}
 use Rattle.pami_algebra.specs.Fraction.{Fraction}
 use Rattle.pami_linear.specs.Lists.{get}
+use Rattle.pami_frac.specs.Printed.{printed}
 use Rattle.pami_model.specs.declared.fault.FileFault.{FileFault}
 use Rattle.pami_model.specs.KindWords.{kind_word}
 use Rattle.pami_model.specs.Contents.{Contents}
@@ -10,6 +11,7 @@ use Rattle.pami_theory.specs.Basis.{Basis, stand_at}
 use Rattle.pami_method.specs.declared.words.Options.{Options}
 use Rattle.pami_method.specs.Phases.{Record, Answer}
 use Rattle.pami_lines.specs.Line.{line, text}
+use Rattle.pami_lines.specs.Words.{operation_word}
 use Rattle.pami_lines.specs.Head.{head_lines}
 use Rattle.pami_lines.specs.Names.{variable_word}
 use Rattle.pami_lines.specs.Letters.{basis_line}
@@ -18,6 +20,13 @@ use Rattle.pami_text.specs.Record.{run_lines}
 use Rattle.pami_log.specs.declared.event.Event.{Event}
 use Rattle.pami_model_form.specs.Named.{names_of, counts_of, named_of}
 use Rattle.pami_log.specs.Events.{event_lines}
+use Rattle.pami_cert.specs.declared.cert.CertFault.{CertFault}
+use Rattle.pami_cert.specs.CertKinds.{kind_word as cert_kind_word}
+use Rattle.pami_check.specs.declared.verdict.Verdict.{Verdict}
+use Rattle.pami_check.specs.declared.verdict.Verdict.TheVariants.{Valid, Invalid, Refused}
+use Rattle.pami_check.specs.ConditionWords.{condition_word}
+
+-- ---- solve
 
 -- the text of a run
 abbrev pub run_text : Contents → Options → Record → Answer → List ℕ
@@ -40,6 +49,28 @@ limit_text c count b = text (answer_line (codes "limit" ∷ decimal count ∷ []
 -- a direction, by variable, along which the cost falls without end
 abbrev pub dual_infeasible_text : Contents → List Fraction → List ℕ
 dual_infeasible_text c z = text (answer_line (codes "dual-infeasible" ∷ []) ∷ dual_infeasible_lines (named_of c) z)
+
+-- ---- check
+
+-- what a condition speaks of; a dash for the whole certificate
+abbrev pub subject_word : Contents → Option ℕ → List ℕ
+subject_word c None = codes "-"
+subject_word c (Some v) = variable_word (names_of c) v
+
+abbrev pub verdict_line : Contents → Verdict → List (List ℕ)
+verdict_line c Valid = codes "valid" ∷ []
+verdict_line c (Invalid condition v) = codes "invalid" ∷ condition_word condition ∷ subject_word c v ∷ []
+verdict_line c (Refused condition v r) =
+    codes "unchecked" ∷ condition_word condition ∷ subject_word c v ∷ operation_word r.op ∷ printed r.left ∷ printed r.right ∷ []
+
+abbrev pub verdict_text : Contents → Verdict → List ℕ
+verdict_text c v = line (verdict_line c v)
+
+-- a text that is no certificate: the line and the kind of its first fault
+abbrev pub malformed_text : CertFault → List ℕ
+malformed_text fault = line (codes "malformed" ∷ decimal fault.line ∷ cert_kind_word fault.kind ∷ [])
+
+-- ---- what may take the place of either
 
 abbrev pub bad_words_text : List ℕ
 bad_words_text = codes "bad words\n"

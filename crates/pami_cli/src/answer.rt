@@ -64,12 +64,12 @@ fn push_answer(
     match answer {
         Solved::Optimal { state } => {
             let values = state.values(alloc, form.bounds.as_slice())?;
-            push_optimal(out, model, values.as_slice(), state)
+            push_optimal(alloc, out, model, values.as_slice(), state)
         }
-        Solved::Infeasible { y } => push_infeasible(out, model, y),
+        Solved::Infeasible { y } => push_infeasible(alloc, out, model, y),
         Solved::DualInfeasible { state, form } => {
             let values = state.values(alloc, form.bounds.as_slice())?;
-            push_dual_infeasible(out, model, values.as_slice())
+            push_dual_infeasible(alloc, out, model, values.as_slice())
         }
         Solved::Limit { state } => push_limit(out, model, state),
         Solved::Overflow(place) => push_overflow(out, place),

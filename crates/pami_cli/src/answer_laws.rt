@@ -1,4 +1,4 @@
-//! What holds of every answer on a file.
+//! What holds of every answer on a file, and of every answer of `check`.
 
 ghost use Rattle.std.specs.Prelude.{◌≡◌, ℕ, List};
 ghost use Rattle.pami_algebra.specs.Fraction.{Fraction};
@@ -7,7 +7,8 @@ ghost use Rattle.pami_theory.specs.Certificate.{IsDualPoint};
 ghost use Rattle.pami_model_form.specs.ModelForm.{model_form};
 ghost use Rattle.pami_cli.specs.declared.status.Status.{Status};
 ghost use Rattle.pami_cli.specs.Reading.{Format, IsTextOf};
-ghost use Rattle.pami_cli.specs.Run.{Answers, Refuses};
+ghost use Rattle.pami_cli.specs.Judged.{IsShown, IsDisproved};
+ghost use Rattle.pami_cli.specs.Run.{Answers, Refuses, ChecksText};
 
 /// A file has one answer: one status and one text.
 pub fn files_have_one_answer()
@@ -26,4 +27,23 @@ pub fn dual_infeasible_files_have_no_dual_point()
     ensures { (format : Format) (bytes : List ℕ) (limit : ℕ) (written : List ℕ)
         → Answers format bytes limit Status.DualInfeasible written
         → (c : Contents) → IsTextOf format bytes c → (y d : ℕ → Fraction) → ¬ IsDualPoint (model_form c) y d }
+{}
+
+/// `check` has one answer on the bytes of FILE and CERT: one status and one text.
+pub fn checks_have_one_answer()
+    ensures { (format : Format) (bytes text : List ℕ) (s t : Status) (w v : List ℕ)
+        → ChecksText format bytes text s w → ChecksText format bytes text t v → (s ≡ t) × (w ≡ v) }
+{}
+
+/// Where `check` answers `valid`, CERT is a certificate that holds against the model of FILE over fractions without bound, and
+/// so shows what it is a certificate of: that no point costs less, that there is no point, or none of the dual program.
+pub fn valid_certificates_hold()
+    ensures { (format : Format) (bytes text written : List ℕ) → ChecksText format bytes text Status.Good written
+        → (c : Contents) → IsTextOf format bytes c → IsShown c text }
+{}
+
+/// Where `check` answers `invalid`, CERT is a certificate that doesn't hold against the model of FILE.
+pub fn invalid_certificates_fail()
+    ensures { (format : Format) (bytes text written : List ℕ) → ChecksText format bytes text Status.Invalid written
+        → (c : Contents) → IsTextOf format bytes c → IsDisproved c text }
 {}

@@ -1,6 +1,6 @@
-//! The program: what the words of a call ask for, read, solved and written.
+//! The program: what the words of a call ask for, read, solved or checked, and written.
 //!
-//! Stands on all crates of the solver, the words and the files. `run_plain` is the whole of it, over a shelf of named
+//! Stands on all crates of the solver, the checker, the words and the files. `run_plain` is the whole of it, over a shelf of named
 //! files and a sink, and carries the theorem from bytes to bytes; `main` hands it the words, the files and the output
 //! of the machine.
 #![tactic(auto)]
@@ -8,15 +8,21 @@
 mod answer;
 pub mod answer_laws;
 mod certificate;
+mod check;
+#[cfg(test)]
+mod check_tests;
 #[cfg(test)]
 mod lp_tests;
+mod output;
 mod print;
+mod reading;
 mod refuse;
 mod run;
 mod solve;
 mod status;
 #[cfg(test)]
 mod tests;
+mod verdict;
 
 ghost use Rattle.std.specs.Prelude.{◌≡◌};
 ghost use Rattle.std.specs.Process.{exit_status};

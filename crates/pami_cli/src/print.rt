@@ -10,11 +10,14 @@ ghost use Rattle.pami_lines.specs.Letters.{letters};
 ghost use Rattle.pami_text.specs.Record.{answer_lines, refused_words};
 ghost use Rattle.pami_model_form.specs.Named.{names_of, counts_of, named_of};
 ghost use Rattle.pami_log.specs.Events.{event_lines};
+ghost use Rattle.pami_cert.specs.Sized.{IsSized};
+ghost use Rattle.pami_cert.specs.CertLines.{cert_lines};
 ghost use Rattle.pami_cli.specs.Text.{begun_text, optimal_text, limit_text, dual_infeasible_text};
 
-use crate::certificate::{push_certificate, push_column_members, push_ray, push_row_members};
+use crate::certificate::{best_cert, direction_cert};
 use itoa::Buffer;
-use pami_frac::{Frac, OutOfMemory};
+use pami_cert::{Cert, print_cert};
+use pami_frac::{Frac, FracList, OutOfMemory};
 use pami_lines::letter_of;
 use pami_log::{Event, Place, push_event, push_place};
 use pami_model::Model;
@@ -71,12 +74,32 @@ fn push_basis(out: &mut Vec<u8>, columns: usize, stands: &[Stand]) -> Result<(),
     Ok(())
 }
 
+/// The lines of a certificate.
+///
+/// # Errors
+///
+/// `OutOfMemory` alone.
+fn push_cert(
+    alloc: Global,
+    out: &mut Vec<u8>,
+    model: &Model,
+    cert: &Cert,
+) -> Result<(), OutOfMemory>
+    requires { IsSized (contents model.now) cert.now }
+    ensures { OnOk result (out.new.items ≡ out.old.items ++ text (cert_lines (contents model.now) cert.now)) }
+{
+    let lines = print_cert(alloc, model, cert)?;
+    out.extend_from_slice(lines.as_slice())?;
+    Ok(())
+}
+
 /// The last lines of a run that ended optimal: the values of all variables, and the last state.
 ///
 /// # Errors
 ///
 /// `OutOfMemory` alone.
 pub fn push_optimal(
+    alloc: Global,
     out: &mut Vec<u8>,
     model: &Model,
     values: &[Frac],
@@ -87,8 +110,9 @@ pub fn push_optimal(
     requires stands { length state.now.stands ≡ length values.now }
     ensures { OnOk result (out.new.items ≡ out.old.items ++ optimal_text (contents model.now) values.now state.now.reduced (basis_of state.now)) }
 {
+    let cert = best_cert(alloc, model, values, state.reduced.as_slice())?;
     out.extend_from_slice(b"answer optimal\n")?;
-    push_certificate(out, model, values, state.reduced.as_slice())?;
+    push_cert(alloc, out, model, &cert)?;
     push_basis(out, model.columns.as_slice().len(), state.stands.as_slice())
 }
 
@@ -112,14 +136,20 @@ pub fn push_limit(out: &mut Vec<u8>, model: &Model, state: &State) -> Result<(),
 /// # Errors
 ///
 /// `OutOfMemory` alone.
-pub fn push_infeasible(out: &mut Vec<u8>, model: &Model, y: &SpVec) -> Result<(), OutOfMemory>
+pub fn push_infeasible(
+    alloc: Global,
+    out: &mut Vec<u8>,
+    model: &Model,
+    y: &SpVec,
+) -> Result<(), OutOfMemory>
     requires { length (contents model.now).rows ≡ length y.now }
     ensures { OnOk result (out.new.items ≡ out.old.items ++ text (answer_lines (named_of (contents model.now)) (Answer.Infeasible y.now))) }
 {
-    out.extend_from_slice(b"answer infeasible\ncertificate 1 infeasible\n")?;
-    push_ray(out, model.rows.as_slice(), y)?;
-    out.extend_from_slice(b"end\n")?;
-    Ok(())
+    let cert = Cert::Infeasible {
+        y: FracList::from_vec(y.to_dense(alloc)?),
+    };
+    out.extend_from_slice(b"answer infeasible\n")?;
+    push_cert(alloc, out, model, &cert)
 }
 
 /// The last lines of a run that found a direction along which the cost falls without end; z goes by variable.
@@ -127,16 +157,18 @@ pub fn push_infeasible(out: &mut Vec<u8>, model: &Model, y: &SpVec) -> Result<()
 /// # Errors
 ///
 /// `OutOfMemory` alone.
-pub fn push_dual_infeasible(out: &mut Vec<u8>, model: &Model, z: &[Frac]) -> Result<(), OutOfMemory>
+pub fn push_dual_infeasible(
+    alloc: Global,
+    out: &mut Vec<u8>,
+    model: &Model,
+    z: &[Frac],
+) -> Result<(), OutOfMemory>
     requires { length (contents model.now).columns + length (contents model.now).rows ≡ length z.now }
     ensures { OnOk result (out.new.items ≡ out.old.items ++ dual_infeasible_text (contents model.now) z.now) }
 {
-    let columns = model.columns.as_slice();
-    out.extend_from_slice(b"answer dual-infeasible\ncertificate 1 dual-infeasible\n")?;
-    push_column_members(out, columns, z)?;
-    push_row_members(out, model.rows.as_slice(), columns.len(), z)?;
-    out.extend_from_slice(b"end\n")?;
-    Ok(())
+    let cert = direction_cert(alloc, model, z)?;
+    out.extend_from_slice(b"answer dual-infeasible\n")?;
+    push_cert(alloc, out, model, &cert)
 }
 
 /// The last line of a run that ended at an operation that didn't fit.

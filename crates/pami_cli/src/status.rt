@@ -6,7 +6,7 @@ ghost use Rattle.pami_cli.specs.Status.{code_of};
 /// How a call ended, and with it the program's exit status.
 #[derive(Clone, Copy, Debug, PartialEq, Eq)]
 pub enum Status {
-    /// The answer is optimal.
+    /// The answer is optimal; the certificate is valid.
     Good,
     /// The words aren't in the table.
     Words,
@@ -26,6 +26,12 @@ pub enum Status {
     Limit,
     /// A number didn't fit.
     Overflow,
+    /// A condition of the certificate fails.
+    Invalid,
+    /// A number of the checker didn't fit before a condition failed.
+    Unchecked,
+    /// The second file is no certificate for the model.
+    Malformed,
 }
 
 impl Status {
@@ -44,6 +50,9 @@ impl Status {
             Status::DualInfeasible => 11,
             Status::Limit => 12,
             Status::Overflow => 13,
+            Status::Invalid => 20,
+            Status::Unchecked => 21,
+            Status::Malformed => 22,
         }
     }
 }

@@ -1,9 +1,26 @@
+use Rattle.std.proofs.Common.{◌≡◌, sym, ap, ◌∙◌, ◌++◌, codes, subst}
+use Rattle.std.proofs.lemmas.Result.{on_ok_weaker}
 use Rattle.pami_model.specs.Contents.{contents}
-use Rattle.pami_cli.proofs.Lines.{dual_infeasible_printed}
+use Rattle.pami_model_form.specs.Named.{named_of}
+use Rattle.pami_lines.specs.Line.{text}
+use Rattle.pami_lines.specs.Certificate.{dual_infeasible_lines}
+use Rattle.pami_cert.specs.Sized.{IsSized}
+use Rattle.pami_cert.specs.CertLines.{cert_lines}
+use Rattle.pami_cli.proofs.Lines.{answer_joined}
+use Rattle.pami_cli.proofs.Certs.{cut_sized, direction_lines}
 use Rattle.pami_cli.proofs.print.push_dual_infeasible.Goals as goal
+
+pub push_cert-requires : goal.push_cert-requires
+push_cert-requires c =
+    let m = contents c.args.model.now in
+    subst (IsSized m) (sym c.in_ok-cert.ensures) (cut_sized m c.args.z.now c.requires)
 
 pub returns : goal.returns
 returns c =
-    dual_infeasible_printed (contents c.args.model.now) c.args.z.now c.as_slice-columns.result.now c.as_slice.result.now c.args.out.now.items _ _ _ _
-    c.as_slice-columns.ensures c.as_slice.ensures
-    c.in_ok-extend_from_slice.ensures.items c.in_ok-push_column_members.ensures c.in_ok-push_row_members.ensures c.in_ok-extend_from_slice-2.ensures.items
+    let m = contents c.args.model.now in
+    on_ok_weaker c.push_cert.result
+    (λ p. answer_joined c.args.out.now.items _ c.push_cert.new.out.items (codes "dual-infeasible") (dual_infeasible_lines (named_of m) c.args.z.now)
+    c.in_ok-extend_from_slice.ensures.items
+    (p ∙ ap (λ k. c.extend_from_slice.new.self.items ++ text (cert_lines m k)) c.in_ok-cert.ensures
+    ∙ ap (λ ls. c.extend_from_slice.new.self.items ++ text ls) (direction_lines m c.args.z.now)))
+    c.push_cert.ensures

@@ -4,10 +4,10 @@ use Rattle.pami_cli.proofs.Runs.{ends_exactly, ends_complete, ends_bad_words, en
 use Rattle.pami_cli.proofs.run.run_plain.Goals as goal
 
 pub returns-clause-exact : goal.returns-clause-exact
-returns-clause-exact g c = λ files file lp limit bytes written status told stands asks answer. ends_exactly _ files file lp limit bytes written status told stands asks answer c.run_words.result c.run_words.ensures.ends
+returns-clause-exact g c = λ files command bytes written status told asks stands answer. ends_exactly _ files command bytes written status told asks stands answer c.run_words.result c.run_words.ensures.ends
 
 pub returns-clause-complete : goal.returns-clause-complete
-returns-clause-complete g c = λ file lp limit asks read wrote. ends_complete _ file lp limit asks read wrote c.run_words.result c.run_words.ensures.ends
+returns-clause-complete g c = λ command asks read wrote. ends_complete _ command asks read wrote c.run_words.result c.run_words.ensures.ends
 
 pub returns-clause-words : goal.returns-clause-words
 returns-clause-words g c = λ bad. ends_bad_words _ bad c.run_words.result c.run_words.ensures.ends

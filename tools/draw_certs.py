@@ -1,0 +1,237 @@
+#!/usr/bin/env python3
+"""Draws texts that should be certificates of a model, most of them damaged, from the text that `solve` wrote for it.
+
+A module of compare_checks.py, which has the models and their texts. The kind of change of case I is the one at place I of KINDS,
+over and over, so each kind has a fixed share. Which verdict a text gets isn't known here.
+"""
+import re
+from fractions import Fraction
+
+HEAD = re.compile(r"^certificate 1 (\S+)$")
+# The largest number that fits, and some around it and above it.
+LARGEST = 2**127 - 1
+WIDE = [str(LARGEST), str(-LARGEST), f"1/{LARGEST}", f"-1/{LARGEST}", f"{LARGEST}/{LARGEST - 1}", str(LARGEST + 1), str(-LARGEST - 1),
+        f"1/{LARGEST + 1}", str(2**64), f"1/{2**64}", str(2**126 + 1), str(10**38), f"1/{10**38}", str(10**39)]
+# Texts of numbers that no number is printed as.
+FAULTY = ["", "-", "-0", "0/5", "4/2", "3/1", "+3", "03", "1.5", "3e0", "1/0", "1/-2", "--1", "wide", "inf", "1/", "/2", "1/2/3", "x"]
+
+
+def parts(text):
+    """The lines before the certificate, its lines up to `end`, and those behind. Without one all lines are before it."""
+    lines = text.split("\n")
+    for at, line in enumerate(lines):
+        if HEAD.match(line):
+            end = next((k for k in range(at, len(lines)) if lines[k] == "end"), len(lines) - 1)
+            return lines[:at], lines[at:end + 1], lines[end + 1:]
+    return lines, [], []
+
+
+def joined(before, certificate, behind):
+    return "\n".join(before + certificate + behind)
+
+
+def numbered(certificate):
+    """Places (line, word) of the numbers of a certificate."""
+    places = [(i, 1) for i, line in enumerate(certificate) if line.startswith("objective ")]
+    for i, line in enumerate(certificate):
+        words = line.split(" ")
+        if words[0] in ("x", "r"):
+            places += [(i, k) for k in range(2, len(words))]
+    return places
+
+
+def put(certificate, place, word):
+    lines = list(certificate)
+    words = lines[place[0]].split(" ")
+    words[place[1]] = word
+    lines[place[0]] = " ".join(words)
+    return lines
+
+
+def value_at(certificate, place):
+    word = certificate[place[0]].split(" ")[place[1]]
+    return Fraction(word) if word != "wide" else Fraction(0)
+
+
+# ---- changes of a certificate's lines: each takes the drawing and the lines, and answers lines
+
+def another_number(draw, lines):
+    places = numbered(lines)
+    if not places:
+        return lines
+    place = draw.choice(places)
+    value = value_at(lines, place)
+    near = [value + 1, value - 1, -value, value * 2, value / 2, Fraction(0), value + Fraction(1, draw.randint(2, 9))]
+    return put(lines, place, str(draw.choice(near)))
+
+
+def no_number(draw, lines):
+    places = numbered(lines)
+    return put(lines, draw.choice(places), draw.choice(FAULTY)) if places else lines
+
+
+def wide_numbers(draw, lines):
+    places = numbered(lines)
+    for place in draw.sample(places, min(len(places), draw.choice([1, 1, 2, 3]))):
+        lines = put(lines, place, draw.choice(WIDE))
+    return lines
+
+
+def exchanged_numbers(draw, lines):
+    places = numbered(lines)
+    if len(places) < 2:
+        return lines
+    first, second = draw.sample(places, 2)
+    words = [lines[i].split(" ")[k] for i, k in (first, second)]
+    return put(put(lines, first, words[1]), second, words[0])
+
+
+def exchanged_lines(draw, lines):
+    if len(lines) < 2:
+        return lines
+    lines = list(lines)
+    i, k = draw.sample(range(len(lines)), 2)
+    lines[i], lines[k] = lines[k], lines[i]
+    return lines
+
+
+def dropped_line(draw, lines):
+    if not lines:
+        return lines
+    at = draw.randrange(len(lines))
+    return lines[:at] + lines[at + 1:]
+
+
+def doubled_line(draw, lines):
+    if not lines:
+        return lines
+    at = draw.randrange(len(lines))
+    return lines[:at + 1] + lines[at:]
+
+
+def wide_objective(draw, lines):
+    return ["objective wide" if line.startswith("objective ") else line for line in lines]
+
+
+def zeros(draw, lines):
+    """All numbers are 0, or all dual values."""
+    last = draw.random() < 0.5
+    for place in numbered(lines):
+        if not last or place[1] == 3:
+            lines = put(lines, place, "0")
+    return lines
+
+
+def negated(draw, lines):
+    """The numbers at one place of all lines with the other sign."""
+    column = draw.choice([2, 3])
+    for place in numbered(lines):
+        if place[1] == column:
+            lines = put(lines, place, str(-value_at(lines, place)))
+    return lines
+
+
+def scaled(draw, lines):
+    factor = draw.choice([Fraction(2), Fraction(1, 3), Fraction(2**70), Fraction(1, 10**30)])
+    for place in numbered(lines):
+        lines = put(lines, place, str(factor * value_at(lines, place)))
+    return lines
+
+
+def another_claim(draw, lines):
+    """The numbers of these lines as a certificate of another claim."""
+    head = HEAD.match(lines[0]) if lines else None
+    if not head:
+        return lines
+    claim = draw.choice([c for c in ("optimal", "infeasible", "dual-infeasible") if c != head[1]])
+    out = [f"certificate 1 {claim}"]
+    if claim == "optimal":
+        out.append("objective 0")
+    for line in lines[1:]:
+        words = line.split(" ")
+        if words[0] == "x" and claim == "infeasible" or words[0] not in ("x", "r"):
+            continue
+        numbers = words[2:] + ["0"]
+        count = 2 if claim == "optimal" else 1
+        out.append(" ".join(words[:2] + (numbers[::-1] if draw.random() < 0.3 else numbers)[:count]))
+    return out + ["end"]
+
+
+def another_name(draw, lines):
+    named = [i for i, line in enumerate(lines) if line.split(" ")[0] in ("x", "r")]
+    if not named:
+        return lines
+    at = draw.choice(named)
+    words = lines[at].split(" ")
+    words[1] = draw.choice([words[1] + "0", words[1][:-1], words[1].upper(), "", lines[draw.choice(named)].split(" ")[1]])
+    return lines[:at] + [" ".join(words)] + lines[at + 1:]
+
+
+def other_words(draw, lines):
+    """A blank, a word or another byte too much or too little in one line."""
+    if not lines:
+        return lines
+    at = draw.randrange(len(lines))
+    line = lines[at]
+    blank = line.find(" ")
+    line = draw.choice([
+        line + " ", " " + line, line.replace(" ", "  ", 1), line.replace(" ", "\t", 1), line + " 0", line + "\r", line + "\r\r",
+        line[:blank] if blank > 0 else line + "s", line.upper(), "", line.replace("certificate 1", "certificate 2"),
+        line.replace("certificate 1 ", "certificate 1  "), "certificate 1 ", "certificate 1",
+    ])
+    return lines[:at] + [line] + lines[at + 1:]
+
+
+# ---- changes of a whole text: each takes the drawing, the text and another model's text, and answers a text
+
+def of_lines(change):
+    def changed(draw, text, other):
+        before, certificate, behind = parts(text)
+        return joined(before, change(draw, certificate), behind)
+    changed.__name__ = change.__name__
+    return changed
+
+
+def own(draw, text, other):
+    return text
+
+
+def of_another(draw, text, other):
+    return other
+
+
+def cut_lines(draw, text, other):
+    lines = text.split("\n")
+    return "\n".join(lines[:draw.randrange(len(lines))]) + draw.choice(["", "\n"])
+
+
+def cut_bytes(draw, text, other):
+    return text[:draw.randrange(len(text) + 1)]
+
+
+def one_byte(draw, text, other):
+    at = draw.randrange(len(text)) if text else 0
+    return text[:at] + draw.choice(["", " ", "\n", "\r", "0", "1", "-", "/", "x", "é"]) + text[at + 1:]
+
+
+def in_front(draw, text, other):
+    before, certificate, behind = parts(text)
+    front = draw.choice([[], ["certificate 1"], ["certificate 1 best"], ["x"], [" certificate 1 optimal"], parts(other)[1]])
+    return joined(front, certificate, draw.choice([[""], ["rubbish"], behind]))
+
+
+def both(draw, text, other):
+    """Two changes of lines, one behind the other."""
+    return draw.choice(LINE_CHANGES)(draw, draw.choice(LINE_CHANGES)(draw, text, other), other)
+
+
+LINE_CHANGES = [of_lines(change) for change in (
+    another_number, no_number, wide_numbers, exchanged_numbers, exchanged_lines, dropped_line, doubled_line, wide_objective, zeros,
+    negated, scaled, another_claim, another_name, other_words)]
+KINDS = [own, of_another, cut_lines, cut_bytes, one_byte, in_front, both] + LINE_CHANGES + LINE_CHANGES[:3] + LINE_CHANGES[9:12]
+
+
+def draw_text(draw, number, text, other):
+    """The text of case `number` from a model's own and another's text, and the name of its kind."""
+    kind = KINDS[number % len(KINDS)]
+    return kind(draw, text, other), kind.__name__
