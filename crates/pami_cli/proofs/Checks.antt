@@ -1,5 +1,5 @@
 -- What `check` answers: one status and one text.
-use Rattle.std.proofs.Common.{◌≡◌, ℕ, ◌<◌, inl, inr, List, length, Option, None, Some, refl, sym, ap, ◌∙◌, subst}
+use Rattle.std.proofs.Common.{◌≡◌, ℕ, inl, inr, List, Option, None, Some, refl, sym, ap, ◌∙◌, subst}
 use Rattle.pami_edge.specs.Outside.{Files, HasFile, HasLongFile}
 use Rattle.pami_model.specs.Contents.{Contents}
 use Rattle.pami_model.specs.Rules.{byte_limit}
@@ -68,7 +68,7 @@ some_wide : {x : WideBox} {A : Type 0} → None ≡ Some x → A
 some_wide e = absurd cc
 
 -- FILE is accepted or refused
-refused_or_accepted : (format : Format) (bytes : List ℕ) (c : Contents) (w : List ℕ) → Refuses format bytes w → IsAccepted format bytes c → ⊥
+pub refused_or_accepted : (format : Format) (bytes : List ℕ) (c : Contents) (w : List ℕ) → Refuses format bytes w → IsAccepted format bytes c → ⊥
 refused_or_accepted format bytes c w (inl r) a = text_or_fault format bytes c r.fault a.text_of r.first
 refused_or_accepted format bytes c w (inr (d, text, wide)) a =
     some_wide (sym a.widths ∙ ap (λ (m : Contents). first_wide (model_form m).bounds) (one_text format bytes c d a.text_of text) ∙ wide.first)

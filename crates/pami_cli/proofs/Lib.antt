@@ -9,3 +9,6 @@ pub mod Objectives
 pub mod Listed
 pub mod Statuses
 pub mod Told
+pub mod PlainWords
+pub mod Earlier
+pub mod OwnTexts

@@ -1,5 +1,6 @@
 -- The answer of a form, and the lines that are printed of it.
-use Rattle.std.proofs.Common.{◌≡◌, ℕ, List, ◌++◌, length, sym, ap, ◌∙◌, subst}
+use Rattle.std.proofs.Common.{◌≡◌, ℕ, ◌+◌, List, ◌++◌, length, sym, ap, ◌∙◌, subst}
+use Rattle.std.specs.List.{All}
 use Rattle.pami_algebra.specs.Fraction.{Fraction}
 use Rattle.pami_frac.specs.declared.list.Bounds.{Bounds}
 use Rattle.pami_theory.specs.Form.{Form}
@@ -24,7 +25,13 @@ use Rattle.pami_model.specs.Contents.{Contents}
 use Rattle.pami_model_form.specs.ModelForm.{model_form}
 use Rattle.pami_model_form.specs.Named.{named_of}
 use Rattle.pami_cli.specs.Text.{optimal_text, dual_infeasible_text}
+use Rattle.pami_method.specs.declared.words.Place.{Place}
+use Rattle.pami_cert.specs.Sized.{IsSized}
+use Rattle.pami_cert.specs.CertText.{Fit, Fits}
+use Rattle.pami_cli.specs.CertOf.{best_cert, direction_cert}
+use Rattle.pami_cli.specs.Answer.{IsCertified}
 use Rattle.pami_cli.specs.Solved.{IsReadable}
+use Rattle.pami_cli.proofs.Certs.{cut_sized, best_sized}
 
 -- ---- states that are read
 -- a state that is solved afresh at a basis of the form
@@ -73,3 +80,35 @@ module _ (c : Contents) (o r : List ℕ) where
   dual_infeasible_lines_are state boxes z v e (phases.DualInfeasible st s) l =
       e ∙ ap (λ x. o ++ dual_infeasible_text c x) (v l.0.solved ∙ ap (λ (x : Fresh). x.values) l.0.fresh)
   dual_infeasible_lines_are state boxes z v e a l = absurd l
+
+-- ---- certificates
+-- the certificate of an answer with a state is that of the method's answer
+module _ (c : Contents) where
+  pub optimal_certified : (state : State) (values : List Fraction) → ((s : IsSolvedAfresh (model_form c) state) → values ≡ s.fresh.values)
+      → length c.columns + length c.rows ≡ length values → length state.reduced ≡ length values → Fits (best_cert c values state.reduced)
+      → (a : phases.Answer) → IsAnswerOf (model_form c) (answers.Optimal state) a → IsCertified c a
+  optimal_certified state values v n m fits (phases.Optimal st s) l =
+      let x : values ≡ s.values = v l.solved ∙ ap (λ (f : Fresh). f.values) l.fresh in
+      let d : state.reduced ≡ s.reduced = l.solved.reduced ∙ ap (λ (f : Fresh). f.reduced) l.fresh in
+      subst (λ (z : List Fraction). IsSized c (best_cert c s.values z) × Fits (best_cert c s.values z)) d
+      (subst (λ (z : List Fraction). IsSized c (best_cert c z state.reduced) × Fits (best_cert c z state.reduced)) x (best_sized c values state.reduced n m, fits))
+  optimal_certified state values v n m fits a l = absurd l
+
+  pub infeasible_certified : (y : List Fraction) → length c.rows ≡ length y → All Fit y → (a : phases.Answer) → IsAnswerOf (model_form c) (answers.Infeasible y) a → IsCertified c a
+  infeasible_certified y n fits (phases.Infeasible z) l =
+      subst (λ (z : List Fraction). (length z ≡ length c.rows) × All Fit z) l.0 (sym n, fits)
+  infeasible_certified y n fits a l = absurd l
+
+  pub dual_infeasible_certified : (state : State) (boxes : ProgramForm) (z : List Fraction) → ((s : IsSolvedAfresh (boxes_of (model_form c)) state) → z ≡ s.fresh.values)
+      → length c.columns + length c.rows ≡ length z → Fits (direction_cert c z) → (a : phases.Answer) → IsAnswerOf (model_form c) (answers.DualInfeasible state boxes) a → IsCertified c a
+  dual_infeasible_certified state boxes z v n fits (phases.DualInfeasible st s) l =
+      subst (λ (x : List Fraction). IsSized c (direction_cert c x) × Fits (direction_cert c x)) (v l.0.solved ∙ ap (λ (f : Fresh). f.values) l.0.fresh) (cut_sized c z n, fits)
+  dual_infeasible_certified state boxes z v n fits a l = absurd l
+
+  pub limit_certified : (state : State) (a : phases.Answer) → IsAnswerOf (model_form c) (answers.Limit state) a → IsCertified c a
+  limit_certified state (phases.Limit st) l = tt
+  limit_certified state a l = absurd l
+
+  pub overflow_certified : (place : Place) (a : phases.Answer) → IsAnswerOf (model_form c) (answers.Overflow place) a → IsCertified c a
+  overflow_certified place (phases.Overflow r) l = tt
+  overflow_certified place a l = absurd l

@@ -34,7 +34,7 @@ use Rattle.pami_cli.specs.declared.status.Status.{Status}
 use Rattle.pami_cli.specs.declared.status.Status.TheVariants as statuses
 use Rattle.pami_cli.specs.Text.{begun_text, run_text, wide_text}
 use Rattle.pami_cli.specs.Solved.{IsTold}
-use Rattle.pami_cli.specs.Answer.{options_of, HasStatus, HoldsFor, AnswersRun, AnswersModel}
+use Rattle.pami_cli.specs.Answer.{options_of, HasStatus, HoldsFor, IsCertified, AnswersRun, AnswersModel}
 
 -- ---- texts
 -- the texts of events are the text of their lines
@@ -92,13 +92,14 @@ module _ (c : Contents) (form : ProgramForm) (is : form_of form ≡ model_form c
   whole = ap length model_bounds.same ∙ model_bounds.by_variable
 
   pub told_run : (limit : ℕ) (status : Status) (written : List ℕ) (answer : Solved) (events : List Event) (t : IsTold (model_form c) (options_of limit) answer events) → HasStatus t.given status
-      → written ≡ begun_text c events ++ text (answer_lines (named_of c) t.given) → AnswersRun c limit status written
-  told_run limit status written answer events t k e = record {
+      → written ≡ begun_text c events ++ text (answer_lines (named_of c) t.given) → IsCertified c t.given → AnswersRun c limit status written
+  told_run limit status written answer events t k e certified = record {
     told = t.run.record_of;
     answer = t.given;
     run = t.run.run;
     has_status = k;
     holds = run_answer_holds c (options_of limit) t.run.record_of t.given uncrossed whole t.run.run;
+    certified = certified;
     written_is = e ∙ run_text_is c (options_of limit) t.run.record_of t.given events t.run.whole;
   }
 

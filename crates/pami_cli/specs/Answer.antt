@@ -1,6 +1,6 @@
 -- What `solve` answers on a model: the run of its form, with the text of its record and the status of its answer; or, where a
 -- width doesn't fit, that it is refused.
-use Rattle.std.specs.Prelude.{◌≡◌, ℕ, ◌⊎◌, List, None, Some}
+use Rattle.std.specs.Prelude.{◌≡◌, ℕ, ◌⊎◌, List, None, Some, IfSome}
 use Rattle.pami_linear.specs.Lists.{get}
 use Rattle.pami_model.specs.Contents.{Contents}
 use Rattle.pami_theory.specs.Fresh.{Fresh}
@@ -14,6 +14,10 @@ use Rattle.pami_model_form.specs.ModelForm.{model_form}
 use Rattle.pami_model_form.specs.Named.{named_of}
 use Rattle.pami_form.specs.declared.form.WideBox.{WideBox}
 use Rattle.pami_form.specs.Widths.{first_wide}
+use Rattle.pami_cert.specs.declared.cert.Cert.{Cert}
+use Rattle.pami_cert.specs.Sized.{IsSized}
+use Rattle.pami_cert.specs.CertText.{Fits}
+use Rattle.pami_cli.specs.CertOf.{cert_of}
 use Rattle.pami_cli.specs.Text.{run_text, wide_text}
 
 -- one row a major, a new elimination in each, and this limit of pivots
@@ -41,6 +45,11 @@ HoldsFor c (DualInfeasible st s) = HoldsDualInfeasible (model_form c) (get s.val
 HoldsFor c (Limit st) = Unit {0}
 HoldsFor c (Overflow refused) = Unit {0}
 
+-- the answer's certificate, where it has one, can be read again: it has a member for each column and row, and its fractions
+-- fit
+abbrev pub IsCertified : Contents → Answer → Type 0
+IsCertified c answer = IfSome (cert_of c answer) (λ (cert : Cert). IsSized c cert × Fits cert)
+
 -- the run of the model's form
 pub record AnswersRun (c : Contents) (limit : ℕ) (status : Status) (written : List ℕ) : Type 0 where
   pub told : Record
@@ -48,6 +57,7 @@ pub record AnswersRun (c : Contents) (limit : ℕ) (status : Status) (written : 
   pub run : IsRun (model_form c) (options_of limit) told answer
   pub has_status : HasStatus answer status
   pub holds : HoldsFor c answer
+  pub certified : IsCertified c answer
   pub written_is : written ≡ run_text c (options_of limit) told answer
 
 -- every width of the form fits

@@ -1,8 +1,8 @@
 pub mod Status
 pub mod Text
-pub mod CertOf
 pub mod Solved
 pub mod Reading
+pub mod CertOf
 pub mod Answer
 pub mod Judged
 pub mod Run

@@ -10,7 +10,7 @@ use Rattle.pami_model.specs.Contents.{Contents}
 use Rattle.pami_model_form.specs.ModelForm.{model_form}
 use Rattle.pami_form.specs.Widths.{first_wide}
 use Rattle.pami_cli.specs.declared.status.Status.{Status}
-use Rattle.pami_cli.specs.declared.status.Status.TheVariants.{Words, File, ReadFault, WriteFault, OutOfMemory}
+use Rattle.pami_cli.specs.declared.status.Status.TheVariants.{Good, Words, File, ReadFault, WriteFault, OutOfMemory, Infeasible, DualInfeasible}
 use Rattle.pami_cli.specs.Reading.{Format, format_by, IsTextOf, IsFirstFaultOf}
 use Rattle.pami_cli.specs.Answer.{AnswersModel, AnswersWide}
 use Rattle.pami_cli.specs.Judged.{Judges}
@@ -48,6 +48,10 @@ Answers format bytes limit status written =
 abbrev pub Refuses : Format → List ℕ → List ℕ → Type 0
 Refuses format bytes written =
     IsRefused format bytes File written ⊎ ((c : Contents) × IsTextOf format bytes c × AnswersWide c File written)
+
+-- the statuses of answers that have a certificate
+abbrev pub HasCertificate : Status → Type 0
+HasCertificate status = (status ≡ Good) ⊎ ((status ≡ Infeasible) ⊎ (status ≡ DualInfeasible))
 
 -- ---- check
 

@@ -11,7 +11,7 @@ ghost use Rattle.pami_text.specs.Record.{answer_lines};
 ghost use Rattle.pami_major.specs.Ready.{form_of as form_for};
 ghost use Rattle.pami_phase.specs.Runs.{IsAnswerOf};
 ghost use Rattle.pami_cli.specs.Solved.{IsReadable, IsTold};
-ghost use Rattle.pami_cli.specs.Answer.{options_of, HasStatus, AnswersRun};
+ghost use Rattle.pami_cli.specs.Answer.{options_of, HasStatus, IsCertified, AnswersRun};
 
 use crate::print::{
     begun, push_dual_infeasible, push_infeasible, push_limit, push_optimal, push_overflow,
@@ -58,8 +58,10 @@ fn push_answer(
 ) -> Result<(), OutOfMemory>
     requires form { form_for form.now ≡ model_form (contents model.now) }
     requires readable { IsReadable (model_form (contents model.now)) answer.now }
-    ensures { OnOk result ((a : phases.Answer) → IsAnswerOf (model_form (contents model.now)) answer.now a
+    ensures lines { OnOk result ((a : phases.Answer) → IsAnswerOf (model_form (contents model.now)) answer.now a
         → out.new.items ≡ out.old.items ++ text (answer_lines (named_of (contents model.now)) a)) }
+    ensures certified { OnOk result ((a : phases.Answer) → IsAnswerOf (model_form (contents model.now)) answer.now a
+        → IsCertified (contents model.now) a) }
 {
     match answer {
         Solved::Optimal { state } => {

@@ -1,26 +1,41 @@
 //! The certificates of a run's answers, made of lists that go by variable.
 
 ghost use Rattle.std.specs.Prelude.{◌≡◌, ◌≤◌, ◌+◌, IfOk, length};
+ghost use Rattle.std.specs.List.{All};
 ghost use Rattle.pami_linear.specs.Lists.{get};
 ghost use Rattle.pami_script.specs.Script.{add_product as the_add_product, add_dot};
 ghost use Rattle.pami_theory.specs.Form.{zero_f};
 ghost use Rattle.pami_model.specs.Contents.{contents};
 ghost use Rattle.pami_model_form.specs.ModelForm.{member};
 ghost use Rattle.pami_lines.specs.Certificate.{kept_or_none};
+ghost use Rattle.pami_cert.specs.declared.cert.Cert.TheVariants.{Infeasible};
+ghost use Rattle.pami_cert.specs.CertText.{Fit, MayFit, Fits};
 ghost use Rattle.pami_cli.specs.CertOf.{best_cert as the_best_cert, direction_cert as the_direction_cert};
 
 use pami_cert::Cert;
 use pami_frac::{Frac, FracList, OutOfMemory};
 use pami_model::{Column, Model};
 use pami_script::plain::add_product;
+use pami_vec::SpVec;
 use std::alloc::Global;
+
+/// The number, which fits as every number of a program does: its parts say so.
+fn fitting(value: Frac) -> Frac
+    ensures same { result ≡ value }
+    ensures fits { Fit result }
+{
+    let _above = value.numerator();
+    let _below = value.denominator();
+    value
+}
 
 /// The sum with one product more. None where an operation doesn't fit.
 fn with_product(t: Frac, cost: Frac, value: Frac) -> Option<Frac>
-    ensures { result ≡ kept_or_none (the_add_product t cost value) }
+    ensures sum { result ≡ kept_or_none (the_add_product t cost value) }
+    ensures fits { MayFit result }
 {
     match add_product(t, cost, value) {
-        Ok(sum) => Some(sum),
+        Ok(sum) => Some(fitting(sum)),
         Err(_) => None,
     }
 }
@@ -28,9 +43,10 @@ fn with_product(t: Frac, cost: Frac, value: Frac) -> Option<Frac>
 /// The constant and the sum of the costs times the values, columns ascending. None where an operation doesn't fit.
 fn told_objective(constant: Frac, columns: &[Column], values: &[Frac]) -> Option<Frac>
     requires { length columns.now ≤ length values.now }
-    ensures { result ≡ kept_or_none (add_dot (length columns.now) (λ j. member (λ column. column.cost) zero_f columns.now j) (get values.now) constant) }
+    ensures fits { MayFit result }
+    ensures sum { result ≡ kept_or_none (add_dot (length columns.now) (λ j. member (λ column. column.cost) zero_f columns.now j) (get values.now) constant) }
 {
-    let mut total = constant;
+    let mut total = fitting(constant);
     for (j, column) in columns.iter().enumerate() {
         total = with_product(total, column.cost, values[j])?;
     }
@@ -43,9 +59,14 @@ fn told_objective(constant: Frac, columns: &[Column], values: &[Frac]) -> Option
 ///
 /// `OutOfMemory` alone.
 fn copied(alloc: Global, members: &[Frac]) -> Result<FracList, OutOfMemory>
-    ensures { IfOk result (λ list. list ≡ members.now) }
+    ensures same { IfOk result (λ list. list ≡ members.now) }
+    ensures fits { IfOk result (All Fit) }
 {
-    Ok(FracList::from_vec(members.to_vec(alloc)?))
+    let mut list = Vec::new(alloc);
+    for member in members {
+        list.push(fitting(*member))?;
+    }
+    Ok(FracList::from_vec(list))
 }
 
 /// The certificate of values and reduced costs, which both go by variable.
@@ -61,7 +82,8 @@ pub fn best_cert(
 ) -> Result<Cert, OutOfMemory>
     requires values { length (contents model.now).columns + length (contents model.now).rows ≡ length values.now }
     requires reduced { length reduced.now ≡ length values.now }
-    ensures { IfOk result (λ cert. cert ≡ the_best_cert (contents model.now) values.now reduced.now) }
+    ensures made { IfOk result (λ cert. cert ≡ the_best_cert (contents model.now) values.now reduced.now) }
+    ensures fits { IfOk result Fits }
 {
     let columns = model.columns.as_slice();
     let (x, r) = values.split_at(columns.len());
@@ -75,6 +97,21 @@ pub fn best_cert(
     })
 }
 
+/// The certificate of a combination of the rows, which goes by row.
+///
+/// # Errors
+///
+/// `OutOfMemory` alone.
+pub fn ray_cert(alloc: Global, y: &SpVec) -> Result<Cert, OutOfMemory>
+    ensures made { IfOk result (λ cert. cert ≡ Infeasible y.now) }
+    ensures fits { IfOk result Fits }
+{
+    let members = y.to_dense(alloc)?;
+    Ok(Cert::Infeasible {
+        y: copied(alloc, members.as_slice())?,
+    })
+}
+
 /// The certificate of a direction, which goes by variable.
 ///
 /// # Errors
@@ -82,7 +119,8 @@ pub fn best_cert(
 /// `OutOfMemory` alone.
 pub fn direction_cert(alloc: Global, model: &Model, z: &[Frac]) -> Result<Cert, OutOfMemory>
     requires { length (contents model.now).columns + length (contents model.now).rows ≡ length z.now }
-    ensures { IfOk result (λ cert. cert ≡ the_direction_cert (contents model.now) z.now) }
+    ensures made { IfOk result (λ cert. cert ≡ the_direction_cert (contents model.now) z.now) }
+    ensures fits { IfOk result Fits }
 {
     let (x, r) = z.split_at(model.columns.as_slice().len());
     Ok(Cert::DualInfeasible {

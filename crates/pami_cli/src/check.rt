@@ -24,7 +24,8 @@ fn check_cert<S: Shelf, K: Sink>(
     out: &mut K,
 ) -> Status
     requires { length (S.asked shelf.old) < 2 }
-    ensures ends { EndsBy (IsCertDue (contents model.now) cert (shelf_call S.Shelf shelf.old shelf.new)) (sink_call K.Sink out.old out.new) result }
+    ensures ends { EndsBy (IsCertDue (contents model.now) cert (shelf_call S.Shelf shelf.old shelf.new))
+        (sink_call K.Sink out.old out.new) result }
     ensures asked { S.asked shelf.new ≡ S.asked shelf.old ++ cert ∷ [] }
     ensures shelf_faults { ShelfCounted (shelf_call S.Shelf shelf.old shelf.new) → IsOrFault result Status.ReadFault }
     ensures sink_faults { SinkCounted (sink_call K.Sink out.old out.new) → result ≡ Status.WriteFault }
@@ -47,7 +48,8 @@ fn check_bytes<S: Shelf, K: Sink>(
     out: &mut K,
 ) -> Status
     requires { length (S.asked shelf.old) < 2 }
-    ensures ends { EndsBy (IsCheckDue (format_by lp) bytes.now cert (shelf_call S.Shelf shelf.old shelf.new)) (sink_call K.Sink out.old out.new) result }
+    ensures ends { EndsBy (IsCheckDue (format_by lp) bytes.now cert (shelf_call S.Shelf shelf.old shelf.new))
+        (sink_call K.Sink out.old out.new) result }
     ensures asked { (S.asked shelf.new ≡ S.asked shelf.old) ⊎ (S.asked shelf.new ≡ S.asked shelf.old ++ cert ∷ []) }
     ensures shelf_faults { ShelfCounted (shelf_call S.Shelf shelf.old shelf.new) → IsOrFault result Status.ReadFault }
     ensures sink_faults { SinkCounted (sink_call K.Sink out.old out.new) → result ≡ Status.WriteFault }

@@ -1,7 +1,7 @@
 //! The text of a run, put together from its events and from the lines of its answer.
 
 ghost use Rattle.std.specs.Prelude.{◌≡◌, ◌≤◌, ◌+◌, ◌∷◌, [], ◌++◌, IfOk, OnOk, decimal, codes, length, take, drop};
-ghost use Rattle.std.specs.List.{flat_map};
+ghost use Rattle.std.specs.List.{All, flat_map};
 ghost use Rattle.pami_model.specs.Contents.{contents};
 ghost use Rattle.pami_method.specs.Phases.{Answer};
 ghost use Rattle.pami_state.specs.State.{basis_of};
@@ -12,12 +12,14 @@ ghost use Rattle.pami_model_form.specs.Named.{names_of, counts_of, named_of};
 ghost use Rattle.pami_log.specs.Events.{event_lines};
 ghost use Rattle.pami_cert.specs.Sized.{IsSized};
 ghost use Rattle.pami_cert.specs.CertLines.{cert_lines};
+ghost use Rattle.pami_cert.specs.CertText.{Fit, Fits};
+ghost use Rattle.pami_cli.specs.CertOf.{best_cert as the_best_cert, direction_cert as the_direction_cert};
 ghost use Rattle.pami_cli.specs.Text.{begun_text, optimal_text, limit_text, dual_infeasible_text};
 
-use crate::certificate::{best_cert, direction_cert};
+use crate::certificate::{best_cert, direction_cert, ray_cert};
 use itoa::Buffer;
 use pami_cert::{Cert, print_cert};
-use pami_frac::{Frac, FracList, OutOfMemory};
+use pami_frac::{Frac, OutOfMemory};
 use pami_lines::letter_of;
 use pami_log::{Event, Place, push_event, push_place};
 use pami_model::Model;
@@ -108,7 +110,8 @@ pub fn push_optimal(
     requires values { length (contents model.now).columns + length (contents model.now).rows ≡ length values.now }
     requires reduced { length state.now.reduced ≡ length values.now }
     requires stands { length state.now.stands ≡ length values.now }
-    ensures { OnOk result (out.new.items ≡ out.old.items ++ optimal_text (contents model.now) values.now state.now.reduced (basis_of state.now)) }
+    ensures printed { OnOk result (out.new.items ≡ out.old.items ++ optimal_text (contents model.now) values.now state.now.reduced (basis_of state.now)) }
+    ensures fits { OnOk result (Fits (the_best_cert (contents model.now) values.now state.now.reduced)) }
 {
     let cert = best_cert(alloc, model, values, state.reduced.as_slice())?;
     out.extend_from_slice(b"answer optimal\n")?;
@@ -143,11 +146,10 @@ pub fn push_infeasible(
     y: &SpVec,
 ) -> Result<(), OutOfMemory>
     requires { length (contents model.now).rows ≡ length y.now }
-    ensures { OnOk result (out.new.items ≡ out.old.items ++ text (answer_lines (named_of (contents model.now)) (Answer.Infeasible y.now))) }
+    ensures printed { OnOk result (out.new.items ≡ out.old.items ++ text (answer_lines (named_of (contents model.now)) (Answer.Infeasible y.now))) }
+    ensures fits { OnOk result (All Fit y.now) }
 {
-    let cert = Cert::Infeasible {
-        y: FracList::from_vec(y.to_dense(alloc)?),
-    };
+    let cert = ray_cert(alloc, y)?;
     out.extend_from_slice(b"answer infeasible\n")?;
     push_cert(alloc, out, model, &cert)
 }
@@ -164,7 +166,8 @@ pub fn push_dual_infeasible(
     z: &[Frac],
 ) -> Result<(), OutOfMemory>
     requires { length (contents model.now).columns + length (contents model.now).rows ≡ length z.now }
-    ensures { OnOk result (out.new.items ≡ out.old.items ++ dual_infeasible_text (contents model.now) z.now) }
+    ensures printed { OnOk result (out.new.items ≡ out.old.items ++ dual_infeasible_text (contents model.now) z.now) }
+    ensures fits { OnOk result (Fits (the_direction_cert (contents model.now) z.now)) }
 {
     let cert = direction_cert(alloc, model, z)?;
     out.extend_from_slice(b"answer dual-infeasible\n")?;

@@ -106,7 +106,8 @@ pub fn run_plain<S: Shelf, K: Sink>(
 
     // FILE is refused, with the line and the kind of its first fault or with the variable whose width doesn't fit, only
     // where the definition has it so; `exact` says that it is then.
-    ensures file_only { result ≡ Status.File → IsFileRefused (call words.now (shelf_call S.Shelf shelf.old shelf.new) (sink_call K.Sink out.old out.new)) }
+    ensures file_only { result ≡ Status.File
+        → IsFileRefused (call words.now (shelf_call S.Shelf shelf.old shelf.new) (sink_call K.Sink out.old out.new)) }
 
     // The causes of the statuses that are no answers.
     ensures words { AreBad words.now → (result ≡ Status.Words) ⊎ ((result ≡ Status.WriteFault) ⊎ (result ≡ Status.OutOfMemory)) }

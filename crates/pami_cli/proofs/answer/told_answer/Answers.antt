@@ -12,4 +12,5 @@ returns c =
     let m = contents c.args.model.now in
     λ limit t.
     told_run m c.args.form.now c.requires.form limit c.status_of.result c.push_answer.new.out.items c.args.answer.now c.args.events.now t (c.status_of.ensures (model_form m) t.given t.is)
-    (c.in_ok-push_answer.ensures t.given t.is ∙ ap (λ z. z ++ text (answer_lines (named_of m) t.given)) c.in_ok-text.ensures)
+    (c.in_ok-push_answer.ensures.lines t.given t.is ∙ ap (λ z. z ++ text (answer_lines (named_of m) t.given)) c.in_ok-text.ensures)
+    (c.in_ok-push_answer.ensures.certified t.given t.is)
