@@ -1,19 +1,22 @@
 -- What a file that was taken says of its parts: each step of it went on.
-use Rattle.std.proofs.Common.{◌≡◌, ℕ, Bool, true, false, cond, nat_lt, List, [], ◌∷◌, ◌++◌, length, Option, None, Some, is_some, Result, Ok, Err, refl, sym, ap, subst, ◌∙◌}
+use Rattle.std.proofs.Common.{◌≡◌, ◌<◌, ℕ, Bool, true, false, true≢false, not, cond, nat_lt, List, [], ◌∷◌, ◌++◌, length, Option, None, Some, is_some, Result, Ok, Err, refl, sym, ap, subst, ◌∙◌}
 use Rattle.std.specs.Option.{option_map}
+use Rattle.std.proofs.lemmas.Bool.{ltb-true}
 use Rattle.pami_algebra.specs.Fraction.{Fraction}
 use Rattle.pami_frac.specs.Answers.{then as chain}
 use Rattle.pami_frac.specs.Decimal.{decimal_value}
 use Rattle.pami_frac.specs.declared.list.Bounds.{Bounds}
 use Rattle.pami_frac.specs.declared.list.Entry.{Entry}
+use Rattle.pami_model.specs.declared.fault.BuildFault.{BuildFault}
 use Rattle.pami_model.specs.declared.fault.FileKind.{FileKind}
 use Rattle.pami_model.specs.declared.fault.FileKind.TheVariants as kinds
-use Rattle.pami_model.specs.Draft.{Draft, empty_draft, is_crossed, new_row, place_of}
-use Rattle.pami_model.specs.Rules.{name_limit, names_of_rows}
+use Rattle.pami_model.specs.Draft.{Draft, empty_draft, is_crossed, new_row, place_of, row_fault}
+use Rattle.pami_model.specs.Rules.{name_limit, names_of_rows, row_limit}
+use Rattle.pami_model.proofs.Judging.{both_none, unset}
 use Rattle.pami_lp.specs.Gather.{sides_by, sides_of, terms_of}
 use Rattle.pami_lp.specs.Grammar.{File, Side, Right, Left, Both, Term, way}
 use Rattle.pami_lp.specs.Meaning.{Opened, opened, close_row, draft_of, left_side, negated, number_in, right_side, take_goal, take_label, take_rows, take_section, take_side, take_term, take_terms}
-use Rattle.pami_lp.specs.Rules.{add_entries, add_term, end_row, name_by, stand, with_row}
+use Rattle.pami_lp.specs.Rules.{add_entries, add_term, end_row, name_by, stand, unless, with_row}
 use Rattle.pami_lp.specs.Values.{coefficient_of, judged, number_of, unbounded}
 use Rattle.pami_lp.proofs.Stepped.{not_ok, ok_same}
 
@@ -70,25 +73,45 @@ term_on t n s u h =
 abbrev pub rowed : Draft → List ℕ → Bounds → Draft
 rowed d name sides = record d { rows = d.rows ++ new_row name sides ∷ [] }
 
+-- a row is added only below the limit
+below_limit : (d e : Draft) (name : List ℕ) (sides : Bounds) → with_row d name sides ≡ Ok e → length d.rows < row_limit
+below_limit d e name sides h =
+    let free : row_fault d name ≡ None = by (row_fault d name) h in
+    let late = (both_none _ _ (both_none _ _ free).1).1 in
+    ltb-true (length d.rows) row_limit (holds (nat_lt (length d.rows) row_limit) (unset _ _ late))
+  where
+    by : (o : Option BuildFault) → unless o (rowed d name sides) ≡ Ok e → o ≡ None
+    by None k = refl
+    by (Some fault) k = not_ok k
+
+    holds : (b : Bool) → not b ≡ false → b ≡ true
+    holds true k = refl
+    holds false k = absurd (true≢false k)
+
 -- a row that is complete stands behind the others, and its entries are added
-pub end_on : (d e : Draft) (name : List ℕ) (sides : Bounds) (sums : List Entry) → end_row d name sides sums ≡ Ok e
-    → add_entries (rowed d name sides) (length d.rows) sums ≡ Ok e
+record EndOn (d e : Draft) (name : List ℕ) (sides : Bounds) (sums : List Entry) : Type 0 where
+  below : length d.rows < row_limit
+  entries : add_entries (rowed d name sides) (length d.rows) sums ≡ Ok e
+
+end_on : (d e : Draft) (name : List ℕ) (sides : Bounds) (sums : List Entry) → end_row d name sides sums ≡ Ok e → EndOn d e name sides sums
 end_on d e name sides sums h = first (is_some (place_of name (names_of_rows d.rows))) h
   where
     added : Result Draft FileKind
     added = chain (with_row d name sides) (λ x. add_entries x (length d.rows) sums)
 
-    last : added ≡ Ok e → add_entries (rowed d name sides) (length d.rows) sums ≡ Ok e
+    last : added ≡ Ok e → EndOn d e name sides sums
     last g =
         let a = on (with_row d name sides) (λ x. add_entries x (length d.rows) sums) e g in
-        ap (λ (x : Draft). add_entries x (length d.rows) sums) (judged_on _ (rowed d name sides) a.value a.is) ∙ a.then
+        record {
+          below = below_limit d a.value name sides a.is;
+          entries = ap (λ (x : Draft). add_entries x (length d.rows) sums) (judged_on _ (rowed d name sides) a.value a.is) ∙ a.then;
+        }
 
-    then : (b : Bool) → cond b (Err kinds.Crossed) added ≡ Ok e → add_entries (rowed d name sides) (length d.rows) sums ≡ Ok e
+    then : (b : Bool) → cond b (Err kinds.Crossed) added ≡ Ok e → EndOn d e name sides sums
     then true g = not_ok g
     then false g = last g
 
-    first : (b : Bool) → cond b (Err kinds.DuplicateRow) (cond (is_crossed sides) (Err kinds.Crossed) added) ≡ Ok e
-        → add_entries (rowed d name sides) (length d.rows) sums ≡ Ok e
+    first : (b : Bool) → cond b (Err kinds.DuplicateRow) (cond (is_crossed sides) (Err kinds.Crossed) added) ≡ Ok e → EndOn d e name sides sums
     first true g = not_ok g
     first false g = then (is_crossed sides) g
 
@@ -96,17 +119,19 @@ end_on d e name sides sums h = first (is_some (place_of name (names_of_rows d.ro
 pub record SideOn (l : Option (List ℕ)) (s : Side) (d e : Draft) : Type 0 where
   pub opened : Opened
   pub terms : take_terms (terms_of s) d ≡ Ok opened
+  pub below : length opened.draft.rows < row_limit
   pub ends : add_entries (rowed opened.draft (name_by (length opened.draft.rows) l) (sides_of s)) (length opened.draft.rows) opened.sums ≡ Ok e
 
 closed_on : (l : Option (List ℕ)) (s : Side) (d e : Draft) (o : Opened) (sides : Bounds) → take_terms (terms_of s) d ≡ Ok o → sides ≡ sides_of s
     → close_row l sides o ≡ Ok e → SideOn l s d e
-closed_on l s d e o sides h k g = record {
-  opened = o;
-  terms = h;
-  ends =
-      subst (λ (b : Bounds). add_entries (rowed o.draft (name_by (length o.draft.rows) l) b) (length o.draft.rows) o.sums ≡ Ok e) k
-      (end_on o.draft e (name_by (length o.draft.rows) l) sides o.sums g);
-}
+closed_on l s d e o sides h k g =
+    let end = end_on o.draft e (name_by (length o.draft.rows) l) sides o.sums g in
+    record {
+      opened = o;
+      terms = h;
+      below = end.below;
+      ends = subst (λ (b : Bounds). add_entries (rowed o.draft (name_by (length o.draft.rows) l) b) (length o.draft.rows) o.sums ≡ Ok e) k end.entries;
+    }
 
 pub side_on : (l : Option (List ℕ)) (s : Side) (d e : Draft) → take_side l s d ≡ Ok e → SideOn l s d e
 side_on l (Right ts r v) d e h =

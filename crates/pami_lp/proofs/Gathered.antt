@@ -1,12 +1,12 @@
 -- A file gives the columns and the rows that are gathered from its parts.
-use Rattle.std.proofs.Common.{◌≡◌, ℕ, ◌+◌, cond, List, [], ◌∷◌, ◌++◌, length, fold, Option, None, Some, is_some, refl, sym, ap, subst, ◌∙◌, append-nil, Ok}
+use Rattle.std.proofs.Common.{◌≡◌, ◌<◌, ◌≤◌, ℕ, ◌+◌, arith, cond, List, [], ◌∷◌, ◌++◌, length, fold, Option, None, Some, is_some, refl, sym, ap, subst, ◌∙◌, append-nil, Ok}
 use Rattle.std.specs.List.{flat_map}
 use Rattle.std.proofs.lemmas.List.{append_assoc, length-append}
 use Rattle.std.proofs.lemmas.List.Sums.{fold-append}
 use Rattle.pami_model.specs.declared.list.Column.{Column}
 use Rattle.pami_model.specs.declared.list.Row.{Row as ModelRow}
 use Rattle.pami_model.specs.Draft.{Draft, changed, column_with_bounds, column_with_cost, new_column, new_row, place_of, stores}
-use Rattle.pami_model.specs.Rules.{names_of_columns}
+use Rattle.pami_model.specs.Rules.{names_of_columns, row_limit}
 use Rattle.pami_lp.specs.Gather.{IsGathered, goal_names, rows_from, section_names, side_names, sides_of, terms_of, with_name}
 use Rattle.pami_lp.specs.Grammar.{File, Row, Side}
 use Rattle.pami_lp.specs.Meaning.{draft_of, take_rows, take_side}
@@ -124,3 +124,22 @@ gathered f d h =
           ∙ sym (fold-append with_name [] (goal_names f.goal) (names ++ section_names f.bounds)
           ∙ fold-append with_name (fold with_name [] (goal_names f.goal)) names (section_names f.bounds));
     }
+
+-- no file has more rows than a model may have
+few_from : (rs : List Row) (d e : Draft) → take_rows rs d ≡ Ok e → length d.rows ≤ row_limit → length e.rows ≤ row_limit
+few_from [] d e h few = subst (λ (x : Draft). length x.rows ≤ row_limit) (ok_same h) few
+few_from (r ∷ rs) d e h few =
+    let a = on (take_side r.label r.side d) (λ d. take_rows rs d) e h in
+    let o = side_on r.label r.side d a.value a.is in
+    let kept : length o.opened.draft.rows ≡ length d.rows = ap length (terms_carried Keeps keeps (terms_of r.side) d o.opened o.terms).rows in
+    let count : length a.value.rows ≡ length d.rows + 1 = ap length (side_rows r.label r.side d a.value a.is).rows ∙ length-append d.rows _ in
+    let below : length o.opened.draft.rows < row_limit = o.below in
+    few_from rs a.value e a.then (omega (arith, kept, count, below))
+
+pub few_rows : (f : File) (d : Draft) → draft_of f ≡ Ok d → length d.rows ≤ row_limit
+few_rows f d h =
+    let o = file_on f d h in
+    let g = goal_carried Keeps keeps costs_keep f.goal _ o.priced o.goal in
+    let z = section_carried Keeps keeps (λ x j b. keeps_changed x j (column_with_bounds b) x.pairs (λ c. refl)) f.bounds o.rowed d o.section in
+    let few : length o.priced.rows ≤ row_limit = subst (λ (rs : List ModelRow). length rs ≤ row_limit) (sym g.rows) (omega arith) in
+    subst (λ (rs : List ModelRow). length rs ≤ row_limit) (sym z.rows) (few_from f.rows o.priced o.rowed o.rows few)

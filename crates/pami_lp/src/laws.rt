@@ -4,6 +4,7 @@ ghost use Rattle.std.specs.Prelude.{◌≡◌, ℕ, List, Ok};
 ghost use Rattle.pami_model.specs.Contents.{Contents};
 ghost use Rattle.pami_model.specs.declared.fault.FileFault.{FileFault};
 ghost use Rattle.pami_model.specs.Draft.{Draft};
+ghost use Rattle.pami_model.specs.FileNames.{HasFileNames};
 ghost use Rattle.pami_lp.specs.Gather.{IsBounded, IsEntered, IsGathered, IsPriced};
 ghost use Rattle.pami_lp.specs.Grammar.{File};
 ghost use Rattle.pami_lp.specs.Meaning.{draft_of};
@@ -51,4 +52,9 @@ pub fn entries_are_sums()
 /// overwrite, `free` takes both away, and an upper bound below 0 takes the lower one away where none was stated.
 pub fn bounds_are_effects()
     ensures { (f : File) (d : Draft) → draft_of f ≡ Ok d → IsBounded f d }
+{}
+
+/// The names of a text's model are names of it, or R1, R2, .. of unnamed rows: none is empty, and each byte is above the space.
+pub fn names_are_tokens()
+    ensures { (bytes : List ℕ) (c : Contents) → Lp bytes c → HasFileNames c }
 {}

@@ -3,6 +3,7 @@
 ghost use Rattle.std.specs.Prelude.{◌≡◌, ◌⊎◌, ℕ, List, IfOk};
 ghost use Rattle.pami_model.specs.declared.fault.FileFault.{FileFault};
 ghost use Rattle.pami_model.specs.Contents.{Contents, contents};
+ghost use Rattle.pami_model.specs.FileNames.{HasFileNames};
 ghost use Rattle.pami_mps.specs.Mps.{Mps, FirstFault, IsRefused};
 ghost use Rattle.pami_mps.specs.Reader.{seen_by_reader, placed_at, IsRead};
 
@@ -105,4 +106,9 @@ pub fn model_or_fault()
 /// No text has both.
 pub fn not_both()
     ensures { (bytes : List ℕ) (c : Contents) (f : FileFault) → Mps bytes c → FirstFault bytes f → ⊥ }
+{}
+
+/// The names of a text's model are words of it: none is empty, and each byte is above the space.
+pub fn names_are_words()
+    ensures { (bytes : List ℕ) (c : Contents) → Mps bytes c → HasFileNames c }
 {}
