@@ -288,7 +288,8 @@ fn scaled(negative: bool, digits: Trimmed, exponent: i128) -> Option<Frac>
 fn value_of(negative: bool, mantissa: Mantissa, part: &[u8], places: usize) -> Option<Frac>
     requires part { exponent_test part.now ≡ true }
     requires zeros { zeros_of mantissa < 2 ^ 66 }
-    ensures refused { (m : ℕ) → IsRead mantissa m → (result ≡ None) ↔ IsTooWide m (power_of part.now -ℤ pos places) (the_scaled (signed_of negative m) (power_of part.now -ℤ pos places)) }
+    ensures refused { (m : ℕ) → IsRead mantissa m
+        → (result ≡ None) ↔ IsTooWide m (power_of part.now -ℤ pos places) (the_scaled (signed_of negative m) (power_of part.now -ℤ pos places)) }
     ensures value { (m : ℕ) → IsRead mantissa m → IfSome result (λ v. v ≡ the_scaled (signed_of negative m) (power_of part.now -ℤ pos places)) }
 {
     match mantissa {

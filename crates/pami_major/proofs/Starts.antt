@@ -25,7 +25,7 @@ lent_kept columns cs bounds bs costs ds e h k is = subst (λ x. IsForm x bs ds) 
 
 -- ---- the start
 -- weights of 1
-ones_are : (n : ℕ) → AreWeights (replicate n 1)
+pub ones_are : (n : ℕ) → AreWeights (replicate n 1)
 ones_are n =
     let ones : List ℕ = replicate n 1 in
     let k : length ones ≡ n = length-replicate {A = ℕ} n 1 in
@@ -53,7 +53,7 @@ module _ (form : Form) (limit : ℕ) (st : State) (at : basis_of st ≡ starting
       }
 
 -- the same of lists that were lent
-starts_at : (form : Form) (limit : ℕ) (g : theory.Form) (st : State) → g ≡ form_of form → basis_of st ≡ starting_basis g → IsSolvedAfresh g st → st.weights ≡ replicate g.rows 1 → st.pivots ≡ 0 → IsDualFeasible g (basis_of st) → IsReady form limit st
+pub starts_at : (form : Form) (limit : ℕ) (g : theory.Form) (st : State) → g ≡ form_of form → basis_of st ≡ starting_basis g → IsSolvedAfresh g st → st.weights ≡ replicate g.rows 1 → st.pivots ≡ 0 → IsDualFeasible g (basis_of st) → IsReady form limit st
 starts_at form limit g st is at solved ones none d =
     start_ready form limit st (subst (λ x. basis_of st ≡ starting_basis x) is at) (subst (λ x. IsSolvedAfresh x st) is solved)
     (subst (λ (x : theory.Form). st.weights ≡ replicate x.rows 1) is ones) none

@@ -7,7 +7,7 @@ ghost use Rattle.pami_method.specs.Walk.{IsOptions, eliminates_anew};
 ghost use Rattle.pami_log.specs.declared.event.Move.TheVariants.{Flipped, Pivoted};
 ghost use Rattle.pami_major.specs.Ready.{IsReady};
 ghost use Rattle.pami_major.specs.Tried.{leaving_at, AreMovable};
-ghost use Rattle.pami_major.specs.Majors.{moved_moves};
+ghost use Rattle.pami_major.specs.Majors.{moved_moves, stuck_record};
 ghost use Rattle.pami_major.specs.Within.{IsSomeOutside};
 ghost use Rattle.pami_major.specs.Walks.{IsOneRow, Planned};
 
@@ -146,7 +146,7 @@ fn stuck_plan(
     rho: SpVec,
 ) -> Result<Plan, OutOfMemory>
     requires { row.now.place < length state.now.head }
-    ensures { IfOk result (λ plan. plan ≡ Plan.Stuck (row.now.place ∷ []) (Move.Stuck row.now.place (leaving_at state.now row.now) row.now.violation.side ∷ []) row.now.place row.now.violation.side rho) }
+    ensures { IfOk result (λ plan. plan ≡ Plan.Stuck (row.now.place ∷ []) (stuck_record state.now row.now) row.now.place row.now.violation.side rho) }
 {
     let leaving = state.head.as_slice()[row.place as usize];
     let moves = stuck_moves(alloc, row, leaving)?;

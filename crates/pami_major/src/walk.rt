@@ -188,7 +188,8 @@ fn drive_from<T: Teller, L>(
     requires one_row { IsOneRow options.now }
     requires ready { IsReady form.now options.now.limit first }
     requires number { tried ≤ 2 ^ 62 }
-    ensures walked { EndsSo form.now options.now tried (walk_state first None) [] result.state result.tried (T.stands teller.old) (T.stands teller.new) (T.stopped teller.new) (T.faults teller.old) (T.faults teller.new) result.outcome }
+    ensures walked { EndsSo form.now options.now tried (walk_state first None) [] result.state result.tried
+        (T.stands teller.old) (T.stands teller.new) (T.stopped teller.new) (T.faults teller.old) (T.faults teller.new) result.outcome }
     ensures few { IfOk result.outcome (λ _. result.tried ≤ tried + (2 * options.now.limit + 2)) }
 {
     let mut walk = Underway {
@@ -226,7 +227,8 @@ pub fn drive<T: Teller, L>(
     requires ready { IsReady form.now options.now.limit state.old }
     requires number { tried.old ≤ 2 ^ 62 }
     // The walk from the first state, and what the teller was told of it.
-    ensures walked { EndsSo form.now options.now tried.old (walk_state state.old None) [] state.new tried.new (T.stands teller.old) (T.stands teller.new) (T.stopped teller.new) (T.faults teller.old) (T.faults teller.new) result }
+    ensures walked { EndsSo form.now options.now tried.old (walk_state state.old None) [] state.new tried.new
+        (T.stands teller.old) (T.stands teller.new) (T.stopped teller.new) (T.faults teller.old) (T.faults teller.new) result }
     // Each kept major takes a pivot, and each that is rolled back is followed by a Single one.
     ensures few { IfOk result (λ _. tried.new ≤ tried.old + (2 * options.now.limit + 2)) }
 {

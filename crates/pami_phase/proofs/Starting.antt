@@ -1,14 +1,11 @@
 -- The state at the start of a form: a walk may begin there, and it is the method's.
-use Rattle.std.proofs.Common.{◌≡◌, ◌↔◌, IsTrue, Bool, ℕ, ◌<◌, List, length, replicate, None, sym, ap, ◌∙◌, subst, arith}
-use Rattle.std.proofs.lemmas.List.{length-replicate, get_or-replicate}
+use Rattle.std.proofs.Common.{◌≡◌, ◌↔◌, IsTrue, Bool, ℕ, List, length, replicate, None, sym, ap, ◌∙◌, subst}
 use Rattle.pami_theory.specs.Form.{Form}
-use Rattle.pami_theory.specs.Basis.{Basis, IsBasis}
+use Rattle.pami_theory.specs.Basis.{Basis}
 use Rattle.pami_theory.specs.Fresh.{IsFresh, IsDualFeasible}
 use Rattle.pami_theory.specs.Start.{starting_basis}
-use Rattle.pami_theory.specs.Weights.{weight_at}
 use Rattle.pami_theory.proofs.Starts.{start_is_basis}
 use Rattle.pami_method.specs.Phases.{starting_state}
-use Rattle.pami_devex.specs.Weights.{AreWeights}
 use Rattle.pami_form.specs.declared.form.Form.{Form as ProgramForm}
 use Rattle.pami_state.specs.declared.state.State.{State}
 use Rattle.pami_frac.specs.declared.list.Bounds.{Bounds}
@@ -17,34 +14,14 @@ use Rattle.pami_state.specs.State.{basis_of, IsSolvedAfresh}
 use Rattle.pami_state.proofs.Formed.{has_bounds}
 use Rattle.pami_major.specs.Ready.{form_of, IsReady}
 use Rattle.pami_major.specs.Walks.{walk_state}
+use Rattle.pami_major.proofs.Starts.{starts_at}
 use Rattle.pami_phase.specs.Starts.{IsStart}
 use Rattle.pami_phase.specs.Runs.{Starts}
-
--- weights of 1
-pub ones_are : (n : ℕ) → AreWeights (replicate n 1)
-ones_are n =
-    let ones : List ℕ = replicate n 1 in
-    let k : length ones ≡ n = length-replicate {A = ℕ} n 1 in
-    λ p l.
-    let m : p < length ones = l in
-    let e : weight_at ones p ≡ 1 = get_or-replicate {A = ℕ} n p 1 1 (omega (arith, k, m)) in
-    record { least = omega (arith, e); most = omega (arith, e) }
 
 -- the starting state is one from which a walk may begin
 pub start_ready : (form : ProgramForm) (limit : ℕ) (f : Form) (st : State) → form_of form ≡ f → IsStart f st → IsDualFeasible f (starting_basis f) → IsReady form limit st
 start_ready form limit f st is h d =
-    let b : IsBasis f (basis_of st) = subst (IsBasis f) (sym h.basis) (start_is_basis f) in
-    let n : length st.head ≡ f.rows = b.places in
-    let w : length st.weights ≡ f.rows = ap length h.weights ∙ length-replicate f.rows 1 in
-    let p : st.pivots ≡ 0 = h.pivots in
-    record {
-      basis = subst (λ g. IsBasis g (basis_of st)) (sym is) b;
-      feasible = subst (λ g. IsDualFeasible g (basis_of st)) (sym is) (subst (IsDualFeasible f) (sym h.basis) d);
-      solved = subst (λ g. IsSolvedAfresh g st) (sym is) h.solved;
-      weights = w ∙ sym n;
-      range = subst AreWeights (sym h.weights) (ones_are f.rows);
-      within = omega arith;
-    }
+    starts_at form limit f st (sym is) h.basis h.solved h.weights h.pivots (subst (IsDualFeasible f) (sym h.basis) d)
 
 -- and it is the method's
 pub start_state : (f : Form) (st : State) → IsStart f st → walk_state st None ≡ starting_state f

@@ -28,7 +28,7 @@ use Rattle.pami_phase.specs.declared.answer.Answer.TheVariants as answers
 use Rattle.pami_phase.specs.Histories.{without}
 use Rattle.pami_phase.specs.Runs.{BeginsRun, EndsRun, LeadsOn, boxes_events, EndsInBoxes, IsBoxesEnd, IsSwitchedFrom, IsSwitchable}
 use Rattle.pami_phase.proofs.Feasible.{same_reduced}
-use Rattle.pami_phase.proofs.Starting.{ones_are}
+use Rattle.pami_major.proofs.Starts.{ones_are}
 use Rattle.pami_phase.proofs.Further.{answered}
 use Rattle.pami_phase.proofs.Beginnings.{switch_leads, switch_begins, phase_one_begins}
 
