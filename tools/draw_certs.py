@@ -49,8 +49,11 @@ def put(certificate, place, word):
 
 
 def value_at(certificate, place):
-    word = certificate[place[0]].split(" ")[place[1]]
-    return Fraction(word) if word != "wide" else Fraction(0)
+    """The number that stands there; 0 where none does, as an earlier change may have left no number."""
+    try:
+        return Fraction(certificate[place[0]].split(" ")[place[1]])
+    except (ValueError, ZeroDivisionError):
+        return Fraction(0)
 
 
 # ---- changes of a certificate's lines: each takes the drawing and the lines, and answers lines
