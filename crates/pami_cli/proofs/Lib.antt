@@ -11,4 +11,5 @@ pub mod Statuses
 pub mod Told
 pub mod PlainWords
 pub mod Earlier
+pub mod PlainNames
 pub mod OwnTexts

@@ -40,6 +40,7 @@ use Rattle.pami_cli.specs.Reading.{Format, IsTextOf}
 use Rattle.pami_cli.specs.Answer.{options_of, HasStatus, HoldsBest, HoldsFor, AnswersRun, AnswersModel}
 use Rattle.pami_cli.specs.Judged.{verdict_status, Judges}
 use Rattle.pami_cli.specs.Run.{Answers, IsAccepted, IsCertAnswer, ChecksText, HasCertificate}
+use Rattle.pami_cli.proofs.PlainNames.{read_names_are_plain}
 use Rattle.pami_cli.proofs.Readings.{one_text}
 use Rattle.pami_cli.proofs.Certs.{best_lines, direction_lines}
 use Rattle.pami_cli.proofs.Checks.{refused_or_accepted}
@@ -169,18 +170,15 @@ module _ (format : Format) (bytes : List ℕ) (limit : ℕ) (status : Status) (w
       let text_of = run_is_text c names (options_of limit) a.told a.answer found.0 found.1 printable.0 printable.1 (subst (λ (z : List ℕ). length z ≤ byte_limit) a.written_is short) in
       held_judged c written found.0 s w (subst (λ (z : List ℕ). IsCertText c z found.0) (sym a.written_is) text_of) (answer_holds c a.answer found.0 found.1 a.holds) j
 
-  pub own_text : (c : Contents) → IsTextOf format bytes c → HasPlainNames c → Answers format bytes limit status written → (s : Status) (w : List ℕ) → ChecksText format bytes written s w
-      → (s ≡ statuses.Good) ⊎ (s ≡ statuses.Unchecked)
-  own_text c is names (inr refused) s w check = absurd (no_certificate_refused status refused.status_is has)
-  own_text c is names (inl a) s w check = by_model a.answer check
+  pub own_text : Answers format bytes limit status written
+      → (s : Status) (w : List ℕ) → ChecksText format bytes written s w → (s ≡ statuses.Good) ⊎ (s ≡ statuses.Unchecked)
+  own_text (inr refused) s w check = absurd (no_certificate_refused status refused.status_is has)
+  own_text (inl a) s w check = by_model a.answer check
     where
-      same : a.model ≡ c
-      same = one_text format bytes a.model c a.text_of is
-
       by_check : AnswersRun a.model limit status written → first_wide (model_form a.model).bounds ≡ None → ChecksText format bytes written s w → (s ≡ statuses.Good) ⊎ (s ≡ statuses.Unchecked)
       by_check run widths (inl r) = absurd (refused_or_accepted format bytes a.model w r.1 (record { text_of = a.text_of; widths = widths }))
       by_check run widths (inr k) =
-          run_judged a.model (subst HasPlainNames (sym same) names) run s w
+          run_judged a.model (read_names_are_plain format bytes a.model a.text_of) run s w
           (subst (λ (x : List ℕ). Judges a.model x s w) k.stands
           (subst (λ (m : Contents). Judges m k.text s w) (one_text format bytes k.model a.model k.accepted.text_of a.text_of) k.judged))
 

@@ -4,7 +4,6 @@ ghost use Rattle.std.specs.Prelude.{◌≡◌, ◌≤◌, ◌⊎◌, ℕ, List, 
 ghost use Rattle.pami_algebra.specs.Fraction.{Fraction};
 ghost use Rattle.pami_model.specs.Contents.{Contents};
 ghost use Rattle.pami_model.specs.Rules.{byte_limit};
-ghost use Rattle.pami_cert.specs.Plain.{HasPlainNames};
 ghost use Rattle.pami_theory.specs.Certificate.{IsDualPoint};
 ghost use Rattle.pami_model_form.specs.ModelForm.{model_form};
 ghost use Rattle.pami_cli.specs.declared.status.Status.{Status};
@@ -51,12 +50,10 @@ pub fn invalid_certificates_fail()
 {}
 
 /// `check` on the text that `solve` wrote for the same file is answered `valid`, or `unchecked` where a number of the checker
-/// doesn't fit: where that text has a certificate and no more bytes than the limit, and no name of the model has a blank or the
-/// end of a line in it.
+/// doesn't fit: where that text has a certificate and no more bytes than the limit.
 pub fn own_texts_are_not_invalid()
     ensures { (format : Format) (bytes : List ℕ) (limit : ℕ) (status : Status) (written : List ℕ)
         → HasCertificate status → length written ≤ byte_limit
-        → (c : Contents) → IsTextOf format bytes c → HasPlainNames c → Answers format bytes limit status written
-        → (s : Status) (w : List ℕ) → ChecksText format bytes written s w
+        → Answers format bytes limit status written → (s : Status) (w : List ℕ) → ChecksText format bytes written s w
         → (s ≡ Status.Good) ⊎ (s ≡ Status.Unchecked) }
 {}
