@@ -1,6 +1,6 @@
 //! A line, judged against what is due in it: the numbers that it tells, or what is wrong with it first.
 
-ghost use Rattle.std.specs.Prelude.{◌≡◌, ℕ, [], ◌∷◌, true, codes, MatchOption, IfOk, IfErr};
+ghost use Rattle.std.specs.Prelude.{◌≡◌, [], ◌∷◌, true, codes, MatchOption, IfOk, IfErr};
 ghost use Rattle.pami_frac.specs.Printed.{printed};
 ghost use Rattle.pami_lines.specs.Certificate.{objective_word};
 ghost use Rattle.pami_cert.specs.Part.{tag};

@@ -1,6 +1,6 @@
 //! The text of a certificate.
 
-ghost use Rattle.std.specs.Prelude.{◌≡◌, ◌<◌, ◌≤◌, ◌∷◌, [], ◌++◌, IfOk, OnOk, length};
+ghost use Rattle.std.specs.Prelude.{◌≡◌, ◌<◌, ◌∷◌, [], ◌++◌, IfOk, OnOk, length};
 ghost use Rattle.pami_frac.specs.Printed.{printed};
 ghost use Rattle.pami_model.specs.Contents.{contents};
 ghost use Rattle.pami_lines.specs.Line.{line, text};

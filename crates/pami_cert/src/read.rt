@@ -1,10 +1,9 @@
 //! The texts of certificates, read.
 
-ghost use Rattle.std.specs.Prelude.{◌≡◌, ◌<◌, ◌≤◌, ◌+◌, ℕ, length, IfOk};
+ghost use Rattle.std.specs.Prelude.{◌<◌, ◌≤◌, ◌+◌, length, IfOk};
 ghost use Rattle.pami_model.specs.Contents.{contents};
 ghost use Rattle.pami_cert.specs.declared.cert.Cert.{Cert};
 ghost use Rattle.pami_cert.specs.declared.cert.CertFault.{CertFault};
-ghost use Rattle.pami_cert.specs.Part.{names};
 ghost use Rattle.pami_cert.specs.CertText.{lines_in, IsCertText};
 ghost use Rattle.pami_cert.specs.Due.{due, part_due};
 ghost use Rattle.pami_cert.specs.FirstFault.{FirstFault, IfNamed, IsReadAs, IsRefusedAs};

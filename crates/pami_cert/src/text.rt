@@ -1,15 +1,14 @@
 //! A text as its lines, each judged where it stands.
 
-ghost use Rattle.std.specs.Prelude.{◌≡◌, ◌<◌, ◌≤◌, ◌+◌, ℕ, [], ◌∷◌, true, length, map, codes, take, MatchResult, IfOk, IfErr};
+ghost use Rattle.std.specs.Prelude.{◌≡◌, ◌<◌, ◌≤◌, ◌+◌, [], length, map, MatchResult, IfOk, IfErr};
 ghost use Rattle.std.specs.List.{All};
 ghost use Rattle.pami_edge.specs.Lines.{lines_of, piece, IsWithin};
-ghost use Rattle.pami_lines.specs.Certificate.{objective_word};
 ghost use Rattle.pami_model.specs.Contents.{Contents};
 ghost use Rattle.pami_model.specs.Rules.{byte_limit};
-ghost use Rattle.pami_cert.specs.CertLines.{head_line, end_line};
+ghost use Rattle.pami_cert.specs.CertLines.{end_line};
 ghost use Rattle.pami_cert.specs.CertText.{lines_in, words_of, Fit, MayFit};
 ghost use Rattle.pami_cert.specs.Due.{Objective, Variable, End};
-ghost use Rattle.pami_cert.specs.FirstFault.{claim_word, fault_at as the_fault_at, FaultFrom};
+ghost use Rattle.pami_cert.specs.FirstFault.{fault_at as the_fault_at, FaultFrom};
 ghost use Rattle.pami_cert.specs.Read.{left_at, HasLine, HasHeadAt, IsWrongAt, objective_line, pair_line, member_line};
 
 use crate::cert::{CertFault, CertKind, Claim};
