@@ -1,5 +1,5 @@
 -- The certificates of answers: their sizes, and their lines by the lists that they are cut from.
-use Rattle.std.proofs.Common.{◌≡◌, ℕ, suc, ◌+◌, ◌-◌, ◌<◌, ◌≤◌, List, [], ◌∷◌, ◌++◌, map, length, take, drop, refl, sym, ap, ◌∙◌, arith, codes, Option}
+use Rattle.std.proofs.Common.{◌≡◌, ℕ, suc, ◌+◌, ◌-◌, ◌<◌, ◌≤◌, List, [], ◌∷◌, ◌++◌, length, take, drop, refl, sym, ap, ◌∙◌, arith, codes, Option}
 use Rattle.std.proofs.lemmas.List.{get_or-take, get_or-drop, length-take-le, length-drop, length-map}
 use Rattle.pami_algebra.specs.Fraction.{Fraction}
 use Rattle.pami_algebra.specs.Operations.{of_int}
@@ -7,7 +7,6 @@ use lib.IntN.{pos}
 use Rattle.pami_linear.specs.Lists.{get}
 use Rattle.pami_frac.specs.Printed.{printed}
 use Rattle.pami_model.specs.declared.list.Column.{Column}
-use Rattle.pami_model.specs.declared.list.Row.{Row}
 use Rattle.pami_model.specs.Rules.{names_of_columns, names_of_rows}
 use Rattle.pami_model.specs.Contents.{Contents}
 use Rattle.pami_model_form.specs.Named.{named_of}

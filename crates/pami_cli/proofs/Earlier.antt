@@ -11,10 +11,10 @@ use Rattle.pami_method.specs.declared.words.Options.{Options}
 use Rattle.pami_method.specs.Batch.{Reached, Minor, Turn, AtLimit, NoRow, Stuck, Pivots, turn, places}
 use Rattle.pami_method.specs.Walk.{State, Major, After, Ends, GoesOn, refused_in, after}
 use Rattle.pami_method.specs.Phases.{Phase, Record}
-use Rattle.pami_lines.specs.Head.{Counts, head_lines, phase_line}
+use Rattle.pami_lines.specs.Head.{Counts, head_lines}
 use Rattle.pami_lines.specs.Names.{Names, variable_word}
 use Rattle.pami_lines.specs.Letters.{letter_word}
-use Rattle.pami_text.specs.Record.{drop_lines, flip_lines, pivot_line, minor_lines, last_lines, major_line, refused_lines, major_lines, lines_after, walk_lines, phase_lines}
+use Rattle.pami_text.specs.Record.{drop_lines, flip_lines, pivot_line, minor_lines, last_lines, refused_lines, major_lines, lines_after, walk_lines, phase_lines}
 use Rattle.pami_cert.specs.CertText.{is_head}
 use Rattle.pami_cert.specs.Plain.{IsPlain, ArePlain, HasPlainWords, IsFront}
 use Rattle.pami_cli.proofs.PlainWords.{word_plain, decimal_plain, decimals_plain, printed_plain, letter_plain, mode_plain, refused_plain, variable_plain}

@@ -1,12 +1,10 @@
 -- The objective's sum, where a loop has come to a column.
-use Rattle.std.proofs.Common.{◌≡◌, ℕ, zero, suc, ◌+◌, ◌-◌, ◌<◌, List, [], ◌∷◌, length, None, Some, Result, Ok, Err, refl, sym, ap, ◌∙◌, arith, nat_eq, get_or}
-use Rattle.std.proofs.lemmas.Bool.{cond-false, ne_eqb}
+use Rattle.std.proofs.Common.{◌≡◌, ℕ, ◌+◌, ◌-◌, ◌<◌, None, Some, Result, Ok, Err, refl, ap}
 use Rattle.pami_algebra.specs.Fraction.{Fraction}
 use Rattle.pami_frac.specs.declared.arithmetic.Refused.{Refused}
 use Rattle.pami_script.specs.Script.{each}
 use Rattle.pami_script.proofs.Loops.{each_goes, each_stops}
 use Rattle.pami_lines.specs.Certificate.{kept_or_none}
-use Rattle.pami_model_form.specs.ModelForm.{member}
 
 -- a result that is kept, or not
 pub kept_is : (r : Result Fraction Refused) (x : Fraction) → Some x ≡ kept_or_none r → r ≡ Ok x

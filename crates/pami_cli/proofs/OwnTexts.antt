@@ -1,5 +1,5 @@
 -- The text that `solve` wrote is a text of its answer's certificate, and `check` doesn't find that invalid.
-use Rattle.std.proofs.Common.{◌≡◌, ℕ, ◌+◌, ◌≤◌, ◌⊎◌, inl, inr, false, IfSome, List, [], ◌∷◌, ◌++◌, length, take, drop, codes, Option, None, Some, refl, sym, ap, ◌∙◌, subst, arith, append_assoc, length-append}
+use Rattle.std.proofs.Common.{◌≡◌, ℕ, ◌≤◌, ◌⊎◌, inl, inr, IfSome, List, [], ◌∷◌, ◌++◌, length, take, drop, codes, Option, None, Some, refl, sym, ap, ◌∙◌, subst, append_assoc}
 use Rattle.std.proofs.lemmas.List.{append-nil, take-append-drop}
 use Rattle.pami_algebra.specs.Fraction.{Fraction}
 use Rattle.pami_linear.specs.Lists.{get}
@@ -39,7 +39,7 @@ use Rattle.pami_cli.specs.Text.{run_text}
 use Rattle.pami_cli.specs.Reading.{Format, IsTextOf}
 use Rattle.pami_cli.specs.Answer.{options_of, HasStatus, HoldsBest, HoldsFor, AnswersRun, AnswersModel}
 use Rattle.pami_cli.specs.Judged.{verdict_status, Judges}
-use Rattle.pami_cli.specs.Run.{Answers, IsAccepted, IsCertAnswer, ChecksText, HasCertificate}
+use Rattle.pami_cli.specs.Run.{Answers, ChecksText, HasCertificate}
 use Rattle.pami_cli.proofs.PlainNames.{read_names_are_plain}
 use Rattle.pami_cli.proofs.Readings.{one_text}
 use Rattle.pami_cli.proofs.Certs.{best_lines, direction_lines}

@@ -1,5 +1,5 @@
 -- The words of a run's text have no blank and no end of a line in them, where the names of its model have none.
-use Rattle.std.proofs.Common.{◌≡◌, ℕ, zero, suc, ◌+◌, ◌-◌, ◌/◌, ◌%◌, ◌<◌, ◌≤◌, Bool, true, false, cond, List, [], ◌∷◌, ◌++◌, length, map, codes, decimal, eqb, refl, sym, arith, nat_lt, nat_le, leb→le, true≢false, subst, ◌==◌, slice_index_or}
+use Rattle.std.proofs.Common.{◌≡◌, ℕ, zero, suc, ◌+◌, ◌-◌, ◌/◌, ◌%◌, ◌≤◌, Bool, true, false, cond, List, [], ◌∷◌, ◌++◌, length, map, codes, decimal, eqb, refl, sym, arith, nat_lt, nat_le, leb→le, true≢false, subst, ◌==◌, slice_index_or}
 use lib.Dec.{T}
 use lib.IntN.{ℤ, pos, negsuc}
 use Rattle.std.specs.List.{flat_map}

@@ -1,4 +1,4 @@
-use Rattle.std.proofs.Common.{◌≡◌, sym, ap, ◌∙◌, ◌++◌, codes, subst}
+use Rattle.std.proofs.Common.{sym, ap, ◌∙◌, ◌++◌, codes, subst}
 use Rattle.std.proofs.lemmas.Result.{on_ok_weaker}
 use Rattle.pami_model.specs.Contents.{contents}
 use Rattle.pami_model_form.specs.Named.{named_of}
