@@ -2,8 +2,9 @@
 """Runs `check` of two programs on certificates drawn by draw_certs.py and compares what they write and how they end.
 
 compare_checks.py PROGRAM REFERENCE --seed S --count N [--jobs J]. PROGRAM and REFERENCE are commands, behind which words are put.
-There is one model of draw_models.py for each KINDS cases; PROGRAM's `solve` gives the texts that are then changed, so each model
-is checked with its own text, with changed ones and with other models' texts. Standard output and exit status must be the same,
+Models of draw_models.py are taken in their order, most of those left out whose answer has no certificate; each has as many
+cases as there are kinds of changes. PROGRAM's `solve` gives the texts that are then changed, so each model is checked with its own
+text, with changed ones and with other models' texts. Standard output and exit status must be the same,
 byte for byte. Each difference is printed, the first few in full; then how often REFERENCE gave each verdict. Ends with 1 where
 something differs.
 """
@@ -50,13 +51,29 @@ def show(number, words, folder, kind, given, due):
     print("---")
 
 
-def write_certs(seed, count, folder, texts, names):
+def solved(program, seed, count, folder, pool):
+    """The names of so many models, and what PROGRAM writes of each: with a certificate, but for one in ten."""
+    names, texts, first = [], [], 0
+    models = draw_models.write_all(seed, 3 * count + 20, folder)
+    while len(names) < count and first < len(models):
+        some = models[first:first + count]
+        first += count
+        written = pool.map(lambda it: answer(program, ["solve", it[0], "--limit", str(it[1])], folder)[1], some)
+        for (name, _), text in zip(some, written):
+            if draw_certs.parts(text)[1] or len(names) % 10 == 9:
+                names.append(name)
+                texts.append(text)
+    return names, texts
+
+
+def write_certs(seed, count, folder, names, texts):
     """Writes the texts of all cases, and answers (words of the call, kind) of each."""
     calls = []
     for number in range(count):
         draw = random.Random(f"certificate {seed} {number}")
-        at = number // len(draw_certs.KINDS)
-        text, kind = draw_certs.draw_text(draw, number, texts[at], draw.choice(texts))
+        at = number // len(draw_certs.KINDS) % len(names)
+        with open(os.path.join(folder, names[at]), encoding="ascii", newline="") as file:
+            text, kind = draw_certs.draw_text(draw, number, texts[at], draw.choice(texts), file.read())
         name = f"c{number:05d}.txt"
         with open(os.path.join(folder, name), "wb") as file:
             file.write(text.encode())
@@ -69,9 +86,8 @@ def compare(program, reference, seed, count, jobs):
     kinds = collections.Counter()
     differences = 0
     with tempfile.TemporaryDirectory() as folder, concurrent.futures.ThreadPoolExecutor(jobs) as pool:
-        models = draw_models.write_all(seed, 1 + (count - 1) // len(draw_certs.KINDS), folder)
-        texts = list(pool.map(lambda it: answer(program, ["solve", it[0], "--limit", str(it[1])], folder)[1], models))
-        calls = write_certs(seed, count, folder, texts, [name for name, _ in models])
+        names, texts = solved(program, seed, 1 + (count - 1) // len(draw_certs.KINDS), folder, pool)
+        calls = write_certs(seed, count, folder, names, texts)
         pairs = pool.map(lambda it: (answer(program, it[0], folder), answer(reference, it[0], folder)), calls)
         for (words, kind), (given, due) in zip(calls, pairs):
             kinds[kind_of(*due[:2])] += 1

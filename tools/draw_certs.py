@@ -10,10 +10,11 @@ from fractions import Fraction
 HEAD = re.compile(r"^certificate 1 (\S+)$")
 # The largest number that fits, and some around it and above it.
 LARGEST = 2**127 - 1
-WIDE = [str(LARGEST), str(-LARGEST), f"1/{LARGEST}", f"-1/{LARGEST}", f"{LARGEST}/{LARGEST - 1}", str(LARGEST + 1), str(-LARGEST - 1),
-        f"1/{LARGEST + 1}", str(2**64), f"1/{2**64}", str(2**126 + 1), str(10**38), f"1/{10**38}", str(10**39)]
+WIDE = [str(LARGEST), str(-LARGEST), f"1/{LARGEST}", f"-1/{LARGEST}", f"{LARGEST}/{LARGEST - 1}", str(LARGEST + 1),
+        str(-LARGEST - 1), f"1/{LARGEST + 1}", str(2**64), f"1/{2**64}", str(2**126 + 1), str(10**38), f"1/{10**38}", str(10**39)]
 # Texts of numbers that no number is printed as.
-FAULTY = ["", "-", "-0", "0/5", "4/2", "3/1", "+3", "03", "1.5", "3e0", "1/0", "1/-2", "--1", "wide", "inf", "1/", "/2", "1/2/3", "x"]
+FAULTY = ["", "-", "-0", "0/5", "4/2", "3/1", "+3", "03", "1.5", "3e0", "1/0", "1/-2", "--1", "wide", "inf", "1/", "/2",
+          "1/2/3", "x"]
 
 
 def parts(text):
@@ -116,6 +117,12 @@ def wide_objective(draw, lines):
     return ["objective wide" if line.startswith("objective ") else line for line in lines]
 
 
+def another_objective(draw, lines):
+    change = draw.choice([1, -1, Fraction(1, 7)])
+    return [f"objective {value_at(lines, (i, 1)) + change}" if line.startswith("objective ") else line
+            for i, line in enumerate(lines)]
+
+
 def zeros(draw, lines):
     """All numbers are 0, or all dual values."""
     last = draw.random() < 0.5
@@ -185,56 +192,93 @@ def other_words(draw, lines):
     return lines[:at] + [line] + lines[at + 1:]
 
 
-# ---- changes of a whole text: each takes the drawing, the text and another model's text, and answers a text
+# ---- changes of a whole text: each takes the drawing, the text, another model's text and the model, and answers a text
 
 def of_lines(change):
-    def changed(draw, text, other):
+    def changed(draw, text, other, model):
         before, certificate, behind = parts(text)
         return joined(before, change(draw, certificate), behind)
     changed.__name__ = change.__name__
     return changed
 
 
-def own(draw, text, other):
+def own(draw, text, other, model):
     return text
 
 
-def of_another(draw, text, other):
+def of_another(draw, text, other, model):
     return other
 
 
-def cut_lines(draw, text, other):
+def cut_lines(draw, text, other, model):
     lines = text.split("\n")
     return "\n".join(lines[:draw.randrange(len(lines))]) + draw.choice(["", "\n"])
 
 
-def cut_bytes(draw, text, other):
+def cut_bytes(draw, text, other, model):
     return text[:draw.randrange(len(text) + 1)]
 
 
-def one_byte(draw, text, other):
+def one_byte(draw, text, other, model):
     at = draw.randrange(len(text)) if text else 0
     return text[:at] + draw.choice(["", " ", "\n", "\r", "0", "1", "-", "/", "x", "é"]) + text[at + 1:]
 
 
-def in_front(draw, text, other):
+def in_front(draw, text, other, model):
     before, certificate, behind = parts(text)
     front = draw.choice([[], ["certificate 1"], ["certificate 1 best"], ["x"], [" certificate 1 optimal"], parts(other)[1]])
     return joined(front, certificate, draw.choice([[""], ["rubbish"], behind]))
 
 
-def both(draw, text, other):
+def both(draw, text, other, model):
     """Two changes of lines, one behind the other."""
-    return draw.choice(LINE_CHANGES)(draw, draw.choice(LINE_CHANGES)(draw, text, other), other)
+    return draw.choice(LINE_CHANGES)(draw, draw.choice(LINE_CHANGES)(draw, text, other, model), other, model)
+
+
+def entries_of(model):
+    """The entries of an MPS text's columns by row, N rows left out."""
+    section, free, entries = "", set(), {}
+    for line in model.splitlines():
+        words = line.split()
+        if not words or line.startswith("*"):
+            continue
+        if line[0] not in " \t":
+            section = words[0]
+        elif section == "ROWS" and words[0] == "N":
+            free.add(words[1])
+        elif section == "COLUMNS":
+            for row, value in zip(words[1::2], words[2::2]):
+                if row not in free:
+                    entries.setdefault(words[0], {})[row] = Fraction(value)
+    return entries
+
+
+def other_duals(draw, text, other, model):
+    """Another dual value of a row or two, with the reduced costs that go with it; and perhaps another objective."""
+    before, lines, behind = parts(text)
+    if not lines or lines[0] != "certificate 1 optimal":
+        return text
+    entries = entries_of(model)
+    rows = [i for i, line in enumerate(lines) if line.startswith("r ")]
+    for at in draw.sample(rows, min(len(rows), draw.choice([1, 1, 2]))):
+        row = lines[at].split(" ")[1]
+        change = draw.choice([Fraction(1), Fraction(-1), Fraction(1, 3), -value_at(lines, (at, 3))])
+        lines = put(lines, (at, 3), str(value_at(lines, (at, 3)) + change))
+        for i, line in enumerate(lines):
+            if line.startswith("x "):
+                entry = entries.get(line.split(" ")[1], {}).get(row, 0)
+                lines = put(lines, (i, 3), str(value_at(lines, (i, 3)) - change * entry))
+    return joined(before, another_objective(draw, lines) if draw.random() < 0.2 else lines, behind)
 
 
 LINE_CHANGES = [of_lines(change) for change in (
-    another_number, no_number, wide_numbers, exchanged_numbers, exchanged_lines, dropped_line, doubled_line, wide_objective, zeros,
-    negated, scaled, another_claim, another_name, other_words)]
-KINDS = [own, of_another, cut_lines, cut_bytes, one_byte, in_front, both] + LINE_CHANGES + LINE_CHANGES[:3] + LINE_CHANGES[9:12]
+    another_number, no_number, wide_numbers, exchanged_numbers, exchanged_lines, dropped_line, doubled_line, wide_objective,
+    another_objective, zeros, negated, scaled, another_claim, another_name, other_words)]
+KINDS = [own, of_another, cut_lines, cut_bytes, one_byte, in_front, both, other_duals, other_duals, other_duals]
+KINDS += LINE_CHANGES + LINE_CHANGES[:3]
 
 
-def draw_text(draw, number, text, other):
+def draw_text(draw, number, text, other, model):
     """The text of case `number` from a model's own and another's text, and the name of its kind."""
     kind = KINDS[number % len(KINDS)]
-    return kind(draw, text, other), kind.__name__
+    return kind(draw, text, other, model), kind.__name__
