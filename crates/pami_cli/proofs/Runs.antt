@@ -1,5 +1,5 @@
 -- What a call has to write, and that it is one text.
-use Rattle.std.proofs.Common.{◌≡◌, ℕ, ◌⊎◌, inl, inr, Bool, List, Some, Result, Ok, Err, sym, ap, ◌∙◌, subst}
+use Rattle.std.proofs.Common.{◌≡◌, ℕ, ◌⊎◌, inl, inr, IsTrue, false, Bool, List, Some, Result, Ok, Err, sym, ap, ◌∙◌, subst}
 use Rattle.std.specs.Result.{IfOk, OnErr}
 use Rattle.pami_algebra.specs.Fraction.{Fraction}
 use Rattle.pami_frac.specs.declared.fault.OutOfMemory.{OutOfMemory}
@@ -18,8 +18,10 @@ use Rattle.pami_cli.specs.declared.status.Status.TheVariants as statuses
 use Rattle.pami_cli.specs.declared.answer.Answer.{Answer}
 use Rattle.pami_cli.specs.Text.{refused_text}
 use Rattle.pami_cli.specs.Reading.{Format, format_by, IsTextOf, IsFirstFaultOf}
-use Rattle.pami_cli.specs.Answer.{AnswersModel}
-use Rattle.pami_cli.specs.Run.{Answers, IsModelAnswer, Refuses, Checks, ChecksText, CommandAnswers, file_of, format_of, IsFileRefused, IsAnswered, IsDue, IsWrittenBy, EndsBy, IsComplete, Call, AskFor, AreBad, Ends, IsOrFault}
+use Rattle.pami_method.specs.Phases.{Answer as RunAnswer, Optimal, Infeasible, DualInfeasible, Limit, Overflow}
+use Rattle.pami_cli.specs.Status.{is_judgement}
+use Rattle.pami_cli.specs.Answer.{HasStatus, AnswersModel}
+use Rattle.pami_cli.specs.Run.{Answers, IsModelAnswer, Refuses, Checks, ChecksText, CommandAnswers, file_of, format_of, IsFileRefused, IsCertJudged, IsAnswered, IsDue, IsWrittenBy, EndsBy, IsComplete, Call, AskFor, AreBad, Ends, IsOrFault}
 use Rattle.pami_cli.proofs.Answers.{one_model_answer, refused_model_is_wide, dual_infeasible_model}
 use Rattle.pami_cli.proofs.Readings.{one_text, one_refusal, text_or_fault, long_fault, long_file}
 use Rattle.pami_cli.proofs.Checks.{some_same, one_check, check_refuses}
@@ -206,3 +208,48 @@ ends_refused k (inr w) = go w.as_far
     go : IsWrittenBy k.sink statuses.File w.due w.written → IsFileRefused k
     go (inl g) = at_status w.due w.written (sym g.0) w.is_due g.1
     go (inr f) = let e = f.0 in absurd cc
+
+-- ---- the statuses of `check` alone
+
+untrue : IsTrue false → ⊥
+untrue e = cc
+
+no_run_judges : (a : RunAnswer) (s : Status) → HasStatus a s → IsTrue (is_judgement s) → ⊥
+no_run_judges (Optimal st x) s h j = untrue (subst (λ z. IsTrue (is_judgement z)) h j)
+no_run_judges (Infeasible y) s h j = untrue (subst (λ z. IsTrue (is_judgement z)) h j)
+no_run_judges (DualInfeasible st x) s h j = untrue (subst (λ z. IsTrue (is_judgement z)) h j)
+no_run_judges (Limit st) s h j = untrue (subst (λ z. IsTrue (is_judgement z)) h j)
+no_run_judges (Overflow r) s h j = untrue (subst (λ z. IsTrue (is_judgement z)) h j)
+
+no_model_judged : (c : Contents) (limit : ℕ) (s : Status) (w : List ℕ) → AnswersModel c limit s w → IsTrue (is_judgement s) → ⊥
+no_model_judged c limit s w (inl f) j = no_run_judges f.run.answer s f.run.has_status j
+no_model_judged c limit s w (inr wide) j = untrue (subst (λ z. IsTrue (is_judgement z)) wide.status_is j)
+
+solve_judges_none : (format : Format) (bytes : List ℕ) (limit : ℕ) (s : Status) (w : List ℕ) → Answers format bytes limit s w → IsTrue (is_judgement s) → ⊥
+solve_judges_none format bytes limit s w (inl a) j = no_model_judged a.model limit s w a.answer j
+solve_judges_none format bytes limit s w (inr r) j = untrue (subst (λ z. IsTrue (is_judgement z)) r.status_is j)
+
+module _ (k : Call) (result : Status) (judgement : IsTrue (is_judgement result)) where
+  none : {A : Type 0} (s : Status) → result ≡ s → (IsTrue (is_judgement s) → ⊥) → A
+  none s e free = absurd (free (subst (λ z. IsTrue (is_judgement z)) e judgement))
+
+  judged_command : (command : Command) (bytes t : List ℕ) → AskFor k.words command → HasFile k.shelf.files (file_of command) bytes
+      → CommandAnswers command bytes (HasFile k.shelf.files) result t → Wrote k.sink t → IsCertJudged k result
+  judged_command (Solve file lp limit) bytes t asks under a g = absurd (solve_judges_none (format_by lp) bytes limit result t a judgement)
+  judged_command (Check file cert lp) bytes t asks under (inl refused) g = none statuses.File refused.0 untrue
+  judged_command (Check file cert lp) bytes t asks under (inr a) g =
+      record { file = file; cert = cert; lp = lp; bytes = bytes; written = t; asks = asks; under = under; answer = a; wrote = g }
+
+  judged_due : (s : Status) (t : List ℕ) → result ≡ s → IsDue k s t → Wrote k.sink t → IsCertJudged k result
+  judged_due s t e (inl d) g = none statuses.Words (e ∙ d.status_is) untrue
+  judged_due s t e (inr (inl d)) g = none statuses.ReadFault (e ∙ d.fault.status_is) untrue
+  judged_due s t e (inr (inr d)) g =
+      judged_command d.command d.bytes t d.asks d.under (subst (λ z. CommandAnswers d.command d.bytes (HasFile k.shelf.files) z t) (sym e) d.answer) g
+
+  pub ends_judged : Ends k result → IsCertJudged k result
+  ends_judged (inl o) = none statuses.OutOfMemory o.0 untrue
+  ends_judged (inr w) = go w.as_far
+    where
+      go : IsWrittenBy k.sink result w.due w.written → IsCertJudged k result
+      go (inl g) = judged_due w.due w.written g.0 w.is_due g.1
+      go (inr f) = none statuses.WriteFault f.0 untrue

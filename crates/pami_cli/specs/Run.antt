@@ -1,5 +1,5 @@
 -- What a run answers on the words of a call and the bytes under the names of its files, and how a call may end.
-use Rattle.std.specs.Prelude.{◌≡◌, ℕ, ◌⊎◌, List, [], ◌∷◌, ◌++◌, None, Ok, Err}
+use Rattle.std.specs.Prelude.{◌≡◌, ℕ, ◌⊎◌, Bool, List, [], ◌∷◌, ◌++◌, None, Ok, Err}
 use Rattle.pami_edge.specs.Outside.{HasFile}
 use Rattle.pami_edge.specs.Calls.{ShelfCall, SinkCall, ShelfFailed, SinkFailed, Wrote, WrotePart, WroteNothing}
 use Rattle.pami_words.specs.declared.command.Command.{Command}
@@ -184,6 +184,18 @@ pub record IsFileRefused (call : Call) : Type 0 where
   pub asks : AskFor call.words command
   pub under : HasFile call.shelf.files (file_of command) bytes
   pub refuses : Refuses (format_of command) bytes written
+  pub wrote : Wrote call.sink written
+
+-- the words ask for `check`, its FILE is accepted, and CERT was answered with this status, on bytes that stand under their names
+pub record IsCertJudged (call : Call) (status : Status) : Type 0 where
+  pub file : List ℕ
+  pub cert : List ℕ
+  pub lp : Bool
+  pub bytes : List ℕ
+  pub written : List ℕ
+  pub asks : AskFor call.words (Check file cert lp)
+  pub under : HasFile call.shelf.files file bytes
+  pub answer : IsCertAnswer (format_by lp) bytes (HasFile call.shelf.files cert) status written
   pub wrote : Wrote call.sink written
 
 -- this status, or one of the faults that may take the place of any

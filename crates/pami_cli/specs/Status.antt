@@ -1,5 +1,5 @@
--- The exit status of each way to end.
-use Rattle.std.specs.Prelude.{ℕ}
+-- The exit status of each way to end, and the ways that are ends of `check` alone.
+use Rattle.std.specs.Prelude.{ℕ, Bool, true, false}
 use Rattle.pami_cli.specs.declared.status.Status.{Status}
 use Rattle.pami_cli.specs.declared.status.Status.TheVariants.{Good, Words, File, ReadFault, WriteFault, OutOfMemory, Infeasible, DualInfeasible, Limit, Overflow, Invalid, Unchecked, Malformed}
 
@@ -17,3 +17,9 @@ code_of Overflow = 13
 code_of Invalid = 20
 code_of Unchecked = 21
 code_of Malformed = 22
+
+abbrev pub is_judgement : Status → Bool
+is_judgement Invalid = true
+is_judgement Unchecked = true
+is_judgement Malformed = true
+is_judgement status = false

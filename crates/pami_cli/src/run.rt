@@ -1,14 +1,15 @@
 //! One run: the words, the files and the answer, from bytes to bytes.
 
-ghost use Rattle.std.specs.Prelude.{◌≡◌, ◌≤◌, ◌⊎◌, ℕ, List, [], ◌∷◌, Some, IfOk};
+ghost use Rattle.std.specs.Prelude.{◌≡◌, ◌≤◌, ◌⊎◌, ℕ, List, [], ◌∷◌, Some, IfOk, IsTrue};
 ghost use Rattle.pami_edge.specs.Outside.{Files, HasFile};
 ghost use Rattle.pami_edge.specs.Calls.{shelf_call, sink_call, ShelfFailed, SinkFailed, ShelfCounted, SinkCounted, Wrote};
 ghost use Rattle.pami_words.specs.declared.command.Command.{Command};
 ghost use Rattle.pami_words.specs.declared.command.Command.TheVariants.{Solve};
 ghost use Rattle.pami_method.specs.Walk.{greatest_limit};
 ghost use Rattle.pami_cli.specs.declared.status.Status.{Status};
+ghost use Rattle.pami_cli.specs.Status.{is_judgement};
 ghost use Rattle.pami_cli.specs.Reading.{format_by};
-ghost use Rattle.pami_cli.specs.Run.{Answers, CommandAnswers, call, AskFor, AreBad, AsksFor, file_of, Ends, IsComplete, IsFileRefused, IsOrFault};
+ghost use Rattle.pami_cli.specs.Run.{Answers, CommandAnswers, call, AskFor, AreBad, AsksFor, file_of, Ends, IsComplete, IsFileRefused, IsCertJudged, IsOrFault};
 
 use crate::answer::Answer;
 use crate::check::check_file;
@@ -108,6 +109,10 @@ pub fn run_plain<S: Shelf, K: Sink>(
     // where the definition has it so; `exact` says that it is then.
     ensures file_only { result ≡ Status.File
         → IsFileRefused (call words.now (shelf_call S.Shelf shelf.old shelf.new) (sink_call K.Sink out.old out.new)) }
+
+    // A certificate is invalid, unchecked or malformed only where the definition has it so, behind a FILE that is accepted.
+    ensures judged_only { IsTrue (is_judgement result)
+        → IsCertJudged (call words.now (shelf_call S.Shelf shelf.old shelf.new) (sink_call K.Sink out.old out.new)) result }
 
     // The causes of the statuses that are no answers.
     ensures words { AreBad words.now → (result ≡ Status.Words) ⊎ ((result ≡ Status.WriteFault) ⊎ (result ≡ Status.OutOfMemory)) }

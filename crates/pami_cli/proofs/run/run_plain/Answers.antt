@@ -1,6 +1,6 @@
 use Rattle.std.proofs.Common.{subst}
 use Rattle.pami_cli.specs.Run.{Ends}
-use Rattle.pami_cli.proofs.Runs.{ends_exactly, ends_complete, ends_bad_words, ends_refused}
+use Rattle.pami_cli.proofs.Runs.{ends_exactly, ends_complete, ends_bad_words, ends_refused, ends_judged}
 use Rattle.pami_cli.proofs.run.run_plain.Goals as goal
 
 pub returns-clause-exact : goal.returns-clause-exact
@@ -14,3 +14,6 @@ returns-clause-words g c = λ bad. ends_bad_words _ bad c.run_words.result c.run
 
 pub returns-clause-file_only : goal.returns-clause-file_only
 returns-clause-file_only g c = λ e. ends_refused _ (subst (Ends _) e c.run_words.ensures.ends)
+
+pub returns-clause-judged_only : goal.returns-clause-judged_only
+returns-clause-judged_only g c = λ judgement. ends_judged _ c.run_words.result judgement c.run_words.ensures.ends
