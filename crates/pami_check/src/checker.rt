@@ -64,9 +64,11 @@ pub fn check(model: &Model, cert: &Cert) -> Verdict
     requires { IsSized (contents model.now) cert.now }
     ensures verdict { result ≡ verdict (contents model.now) cert.now }
 
-    // A valid certificate holds over fractions without bound, and so shows what it is a certificate of.
+    // A valid certificate holds over fractions without bound.
     ensures valid { result ≡ Verdict.Valid → Holds (contents model.now) cert.now }
-    ensures shown { result ≡ Verdict.Valid → Shows (contents model.now) cert.now }
+
+    // One that holds shows what it is a certificate of, whatever the verdict on it.
+    ensures shown { Holds (contents model.now) cert.now → Shows (contents model.now) cert.now }
 
     // An invalid one doesn't hold.
     ensures invalid { (condition : Condition) (variable : Option ℕ)

@@ -7,9 +7,7 @@ pub returns-clause-valid : goal.returns-clause-valid
 returns-clause-valid c = λ e. valid_holds (contents c.args.model.now) c.args.cert.now (sym c.judge.ensures ∙ e)
 
 pub returns-clause-shown : goal.returns-clause-shown
-returns-clause-shown c =
-    let m = contents c.args.model.now in
-    λ e. holds_shows m c.args.cert.now (valid_holds m c.args.cert.now (sym c.judge.ensures ∙ e))
+returns-clause-shown c = λ holds. holds_shows (contents c.args.model.now) c.args.cert.now holds
 
 pub returns-clause-invalid : goal.returns-clause-invalid
 returns-clause-invalid c =
