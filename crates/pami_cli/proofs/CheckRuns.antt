@@ -5,6 +5,7 @@ use Rattle.std.proofs.lemmas.List.{append-nil}
 use Rattle.pami_frac.specs.declared.fault.OutOfMemory.{OutOfMemory}
 use Rattle.pami_edge.specs.Outside.{Files, HasFile, HasLongFile}
 use Rattle.pami_edge.specs.Calls.{ShelfCall, SinkCall, WroteNothing}
+use Rattle.pami_words.specs.declared.command.Command.{Command}
 use Rattle.pami_words.specs.declared.command.Command.TheVariants.{Check}
 use Rattle.pami_model.specs.Contents.{Contents}
 use Rattle.pami_model.specs.Rules.{byte_limit}
@@ -22,7 +23,7 @@ use Rattle.pami_cli.specs.Text.{refused_text, wide_text, malformed_text}
 use Rattle.pami_cli.specs.Reading.{Format, format_by, IsTextOf, IsFirstFaultOf}
 use Rattle.pami_cli.specs.Taken.{IsTaken, IsFitting}
 use Rattle.pami_cli.specs.Judged.{Judges}
-use Rattle.pami_cli.specs.Run.{IsAccepted, IsCertDue, IsCheckDue, IsWrittenBy, EndsBy, Call, AskFor, Ends, IsDue, IsFront}
+use Rattle.pami_cli.specs.Run.{IsAccepted, IsCertDue, IsCheckDue, IsWrittenBy, EndsBy, Call, AskFor, Ends, IsDue, IsFront, Refuses, file_of, format_of}
 use Rattle.pami_cli.proofs.Readings.{long_fault, long_file}
 use Rattle.pami_cli.proofs.Checks.{long_cert_fault, long_cert_file}
 use Rattle.pami_cli.proofs.Runs.{answer_ends, ends_too}
@@ -115,3 +116,35 @@ module _ (k : Call) (result : Status) (file cert : List ℕ) (lp : Bool) (asks :
           → IfOk r (λ a. a.text.items ≡ refused_text long_fault) → IfOk r (λ a. IsCheckDue (format_by lp) bytes cert k.shelf a.status a.text.items)
       long_due (Ok a) bytes first e w = inr (inl (e, inl (record { fault = long_fault; first = first; status_is = refl; written_is = w })))
       long_due (Err x) bytes first e w = tt
+
+-- where FILE is refused CERT isn't asked for: its bytes are those that were read
+pub asked_file : (shelf : Option Files) (files : Files) (file read bytes : List ℕ) (format : Format) (written : List ℕ) (old mid new : List (List ℕ)) → shelf ≡ Some files
+    → HasFile shelf file read → files file ≡ Some bytes → old ≡ [] → mid ≡ old ++ file ∷ []
+    → ((w : List ℕ) → Refuses format read w → new ≡ mid) → Refuses format bytes written → new ≡ file ∷ []
+asked_file shelf files file read bytes format written old mid new e h g o m same refuses =
+    let under : files file ≡ Some read = subst (λ (x : Option Files). HasFile x file read) e h in
+    let one : bytes ≡ read = some_same (sym g ∙ under) in
+    same written (subst (λ (x : List ℕ). Refuses format x written) one refuses) ∙ m ∙ ap (λ (z : List (List ℕ)). z ++ file ∷ []) o
+  where
+    some_same : {x y : List ℕ} → ◌≡◌ {A = Option (List ℕ)} (Some x) (Some y) → x ≡ y
+    some_same k = cc
+
+-- the same of the command that the words ask for
+pub asked_command : {E : Type 0} (outcome : Result Command E) (command : Command) (file cert : List ℕ) (lp : Bool) (files : Files) (bytes written : List ℕ) (asked : List (List ℕ))
+    → outcome ≡ Ok (Check file cert lp) → outcome ≡ Ok command → files (file_of command) ≡ Some bytes → Refuses (format_of command) bytes written
+    → (files file ≡ Some bytes → Refuses (format_by lp) bytes written → asked ≡ file ∷ []) → IsFront asked (file_of command ∷ [])
+asked_command {E = E} outcome command file cert lp files bytes written asked is asks stands refuses front =
+    subst (λ (k : Command). files (file_of k) ≡ Some bytes → Refuses (format_of k) bytes written → IsFront asked (file_of k ∷ [])) same go stands refuses
+  where
+    ok_same : {x y : Command} → ◌≡◌ {A = Result Command E} (Ok x) (Ok y) → x ≡ y
+    ok_same k = cc
+
+    same : Check file cert lp ≡ command
+    same = ok_same (sym is ∙ asks)
+
+    go : files file ≡ Some bytes → Refuses (format_by lp) bytes written → IsFront asked (file ∷ [])
+    go s r = ([], append-nil asked ∙ front s r)
+
+-- nothing was asked for
+pub asked_nothing : (old : List (List ℕ)) (file : List ℕ) → old ≡ [] → IsFront old (file ∷ [])
+asked_nothing old file none = (file ∷ [], ap (λ (z : List (List ℕ)). z ++ file ∷ []) none)

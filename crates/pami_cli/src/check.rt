@@ -1,11 +1,12 @@
 //! The command `check`: FILE, its model, CERT, and the verdict.
 
-ghost use Rattle.std.specs.Prelude.{◌≡◌, ◌<◌, ◌⊎◌, ℕ, List, [], ◌∷◌, ◌++◌, length};
+ghost use Rattle.std.specs.Prelude.{◌≡◌, ◌<◌, ◌⊎◌, ℕ, List, [], ◌∷◌, ◌++◌, length, Some};
+ghost use Rattle.pami_edge.specs.Outside.{Files};
 ghost use Rattle.pami_edge.specs.Calls.{shelf_call, sink_call, ShelfCounted, SinkCounted};
 ghost use Rattle.pami_words.specs.declared.command.Command.TheVariants.{Check};
 ghost use Rattle.pami_model.specs.Contents.{contents};
 ghost use Rattle.pami_cli.specs.Reading.{format_by};
-ghost use Rattle.pami_cli.specs.Run.{call, AskFor, Ends, EndsBy, IsCertDue, IsCheckDue, IsFront, IsOrFault};
+ghost use Rattle.pami_cli.specs.Run.{call, AskFor, Ends, EndsBy, IsCertDue, IsCheckDue, IsFront, IsOrFault, Refuses};
 
 use crate::output::{finish, finish_answer};
 use crate::reading::{Taken, long_answer, take_file};
@@ -51,6 +52,7 @@ fn check_bytes<S: Shelf, K: Sink>(
     ensures ends { EndsBy (IsCheckDue (format_by lp) bytes.now cert (shelf_call S.Shelf shelf.old shelf.new))
         (sink_call K.Sink out.old out.new) result }
     ensures asked { (S.asked shelf.new ≡ S.asked shelf.old) ⊎ (S.asked shelf.new ≡ S.asked shelf.old ++ cert ∷ []) }
+    ensures refused { (written : List ℕ) → Refuses (format_by lp) bytes.now written → S.asked shelf.new ≡ S.asked shelf.old }
     ensures shelf_faults { ShelfCounted (shelf_call S.Shelf shelf.old shelf.new) → IsOrFault result Status.ReadFault }
     ensures sink_faults { SinkCounted (sink_call K.Sink out.old out.new) → result ≡ Status.WriteFault }
 {
@@ -74,6 +76,8 @@ pub fn check_file<S: Shelf, K: Sink>(
     ensures ends { (words : List (List ℕ)) → AskFor words (Check file cert lp)
         → Ends (call words (shelf_call S.Shelf shelf.old shelf.new) (sink_call K.Sink out.old out.new)) result }
     ensures asked { IsFront (S.asked shelf.new) (file ∷ cert ∷ []) }
+    ensures file_first { (files : Files) (bytes written : List ℕ) → S.files shelf.old ≡ Some files → files file ≡ Some bytes
+        → Refuses (format_by lp) bytes written → S.asked shelf.new ≡ file ∷ [] }
     ensures shelf_faults { ShelfCounted (shelf_call S.Shelf shelf.old shelf.new) → IsOrFault result Status.ReadFault }
     ensures sink_faults { SinkCounted (sink_call K.Sink out.old out.new) → result ≡ Status.WriteFault }
 {

@@ -9,7 +9,7 @@ ghost use Rattle.pami_method.specs.Walk.{greatest_limit};
 ghost use Rattle.pami_cli.specs.declared.status.Status.{Status};
 ghost use Rattle.pami_cli.specs.Status.{is_judgement};
 ghost use Rattle.pami_cli.specs.Reading.{format_by};
-ghost use Rattle.pami_cli.specs.Run.{Answers, CommandAnswers, call, AskFor, AreBad, AsksFor, file_of, Ends, IsComplete, IsFileRefused, IsCertJudged, IsOrFault};
+ghost use Rattle.pami_cli.specs.Run.{Answers, CommandAnswers, call, AskFor, AreBad, AsksFor, file_of, Ends, IsComplete, IsFileRefused, IsCertJudged, IsFront, IsOrFault, Refuses, format_of};
 
 use crate::answer::Answer;
 use crate::check::check_file;
@@ -66,6 +66,9 @@ fn run_words<S: Shelf, K: Sink>(alloc: Global, words: &[Word], shelf: &mut S, ou
     requires { S.asked shelf.old ≡ [] }
     ensures ends { Ends (call words.now (shelf_call S.Shelf shelf.old shelf.new) (sink_call K.Sink out.old out.new)) result }
     ensures asked { AsksFor words.now (S.asked shelf.new) }
+    ensures file_first { (files : Files) (command : Command) (bytes written : List ℕ) → S.files shelf.old ≡ Some files
+        → AskFor words.now command → files (file_of command) ≡ Some bytes → Refuses (format_of command) bytes written
+        → IsFront (S.asked shelf.new) (file_of command ∷ []) }
     ensures shelf_faults { ShelfCounted (shelf_call S.Shelf shelf.old shelf.new) → IsOrFault result Status.ReadFault }
     ensures sink_faults { SinkCounted (sink_call K.Sink out.old out.new) → result ≡ Status.WriteFault }
 {
@@ -120,8 +123,12 @@ pub fn run_plain<S: Shelf, K: Sink>(
     ensures read_fault { result ≡ Status.ReadFault → ShelfFailed (shelf_call S.Shelf shelf.old shelf.new) }
     ensures write_fault { result ≡ Status.WriteFault → SinkFailed (sink_call K.Sink out.old out.new) }
 
-    // No names but those of the command's files are asked for, in their order, and no fault is passed over.
+    // No names but those of the command's files are asked for, in their order, and none behind a FILE that is refused; no
+    // fault is passed over.
     ensures asked { AsksFor words.now (S.asked shelf.new) }
+    ensures file_first { (files : Files) (command : Command) (bytes written : List ℕ) → S.files shelf.old ≡ Some files
+        → AskFor words.now command → files (file_of command) ≡ Some bytes → Refuses (format_of command) bytes written
+        → IsFront (S.asked shelf.new) (file_of command ∷ []) }
     ensures shelf_faults { ShelfCounted (shelf_call S.Shelf shelf.old shelf.new) → IsOrFault result Status.ReadFault }
     ensures sink_faults { SinkCounted (sink_call K.Sink out.old out.new) → result ≡ Status.WriteFault }
 {

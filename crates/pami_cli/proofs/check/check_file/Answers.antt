@@ -1,8 +1,8 @@
-use Rattle.std.proofs.Common.{ℕ, List, refl, subst}
+use Rattle.std.proofs.Common.{◌≡◌, ℕ, List, refl, subst}
 use Rattle.pami_edge.specs.Calls.{shelf_call, sink_call}
 use Rattle.pami_cli.specs.Reading.{format_by}
-use Rattle.pami_cli.specs.Run.{EndsBy, IsCheckDue}
-use Rattle.pami_cli.proofs.CheckRuns.{same_shelf, ends_check, ends_long_file, asked_front, asked_one}
+use Rattle.pami_cli.specs.Run.{EndsBy, IsCheckDue, Refuses}
+use Rattle.pami_cli.proofs.CheckRuns.{same_shelf, ends_check, ends_long_file, asked_front, asked_one, asked_file}
 use Rattle.pami_cli.proofs.check.check_file.Goals as goal
 
 pub returns-in-Ok-clause-ends : goal.returns-in-Ok-clause-ends
@@ -30,3 +30,12 @@ returns-in-Err-TooLong-clause-ends g c = λ words asks.
     let long = rw c.in-Err-TooLong.field-0-is at c.in-Err-TooLong.ensures in
     ends_long_file _ _ c.args.file c.args.cert c.args.lp asks c.long_answer.result (long.longer refl) c.long_answer.ensures.status c.long_answer.ensures.text
     c.finish_answer.ensures.written c.finish_answer.ensures.nothing
+
+pub returns-in-Ok-clause-file_first : goal.returns-in-Ok-clause-file_first
+returns-in-Ok-clause-file_first g c = λ files bytes written told stands refuses.
+    let format = format_by c.args.lp in
+    let mid = g.S.Shelf.asked c.read_whole.new.shelf in
+    let new = g.S.Shelf.asked c.check_bytes.new.shelf in
+    asked_file (g.S.Shelf.files c.args.shelf.now) files c.args.file c.in-Ok.bytes.items bytes format written (g.S.Shelf.asked c.args.shelf.now) mid new told
+    c.in-Ok.ensures.whole stands c.requires.unasked c.read_whole.ensures.asked
+    (subst (λ (x : List ℕ). (w : List ℕ) → Refuses format x w → new ≡ mid) c.as_slice.ensures.value c.check_bytes.ensures.refused) refuses
