@@ -40,7 +40,7 @@ pub(crate) enum Claim {
 pub enum CertKind {
     /// No line begins a certificate.
     Absent,
-    /// An unknown first word, or a wrong count of words.
+    /// The count of words or the first word isn't the one that is due, or the claim is none of the three.
     Word,
     /// Another name than the one that is due.
     Name,

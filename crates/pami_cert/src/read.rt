@@ -155,7 +155,7 @@ fn read_text(alloc: Global, bytes: &[u8], model: &Model) -> Result<Cert, Fault<C
 ///
 /// The first fault, exactly where the bytes are no text of a certificate for this model: its line, counted from 1, and
 /// what is wrong there first, in the order of the count of words, the first word, the name, the numbers. Where no line
-/// begins a certificate, or the text ends before `end`, the line is the count of lines plus 1; a text of more than
+/// begins a certificate, or the text ends before `end`, the line is the one behind the last; a text of more than
 /// 16,777,216 bytes is `TooLong` in line 0. `OutOfMemory` where memory ran out.
 pub fn read_cert(alloc: Global, bytes: &[u8], model: &Model) -> Result<Cert, Fault<CertFault>>
     // What is answered is the certificate of the text.

@@ -69,7 +69,7 @@ fn read_lines(alloc: Global, bytes: &[u8]) -> Result<Ending, Fault<FileFault>>
 ///
 /// The first fault of the text, exactly where it is a text of no model: the line, counted from 1, and what is wrong
 /// with it first after the lines before it. Bounds that are crossed are found at ENDATA. Where ENDATA is missing, the
-/// line is the count of lines plus 1; a text of more than 16,777,216 bytes is `TooLong` in line 0. `OutOfMemory` where
+/// line is the one behind the last; a text of more than 16,777,216 bytes is `TooLong` in line 0. `OutOfMemory` where
 /// memory ran out.
 pub fn read_mps(alloc: Global, bytes: &[u8]) -> Result<Model, Fault<FileFault>>
     // What is answered is a model of the text.
