@@ -49,8 +49,8 @@ pub fn invalid_certificates_fail()
         → (c : Contents) → IsTextOf format bytes c → IsDisproved c text }
 {}
 
-/// Given back what `solve` answers a file, `check` says `valid` of it, or `unchecked` where a number of the checker doesn't
-/// fit: as far as that text has a certificate and keeps within the limit of bytes.
+/// Given back what `solve` answers a file, `check` says `valid` of it, or `unchecked` where a number of the checker
+/// doesn't fit: as far as that text has a certificate and keeps within the limit of bytes.
 pub fn own_texts_are_not_invalid()
     ensures { (format : Format) (bytes : List ℕ) (limit : ℕ) (status : Status) (written : List ℕ)
         → HasCertificate status → length written ≤ byte_limit
