@@ -1,0 +1,15 @@
+pub mod Systems
+pub mod Chains
+pub mod Solutions
+pub mod CollectedValues
+pub mod Minors
+pub mod Filters
+pub mod KeptTurns
+pub mod Pivots
+pub mod Insides
+pub mod CollectScripts
+pub mod Histories
+pub mod ReachScripts
+pub mod ListScripts
+pub mod KeptWork
+pub mod UnrefusedTasks
