@@ -56,10 +56,10 @@ use Rattle.pami_state.specs.Columns.{rows_of, column_of, form_by, IsForm}
 use Rattle.pami_state.specs.State.{basis_of, values_by_place}
 use Rattle.pami_state.specs.declared.state.State.{State}
 use Rattle.pami_state.proofs.Formed.{variables_are, coefficient_is}
-use Rattle.pami_major.specs.declared.change.Change.{Change}
-use Rattle.pami_major.specs.declared.change.Change.TheVariants.{Shifted}
+use Rattle.pami_vec.specs.declared.change.Change.{Change}
+use Rattle.pami_vec.specs.declared.change.Change.TheVariants.{Shifted}
 use Rattle.pami_major.specs.declared.choose.LeavingRow.{LeavingRow}
-use Rattle.pami_major.specs.Changes.{changed}
+use Rattle.pami_vec.specs.Changes.{changed}
 use Rattle.pami_major.specs.Exchange.{flip_at, flips_by, length_by, values_by}
 use Rattle.pami_major.specs.Leaving.{bounds_at_places}
 use Rattle.pami_major.specs.Ready.{form_of}

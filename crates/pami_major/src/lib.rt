@@ -9,7 +9,6 @@
 
 mod alone;
 mod behind;
-mod change;
 mod choose;
 mod collect;
 mod one_row;

@@ -4,3 +4,6 @@ pub mod Scripted
 pub mod Joined
 pub mod AllEntries
 pub mod Members
+pub mod Passes
+pub mod Results
+pub mod Changed
