@@ -5,3 +5,4 @@ pub mod Tested
 pub mod Matched
 pub mod Ended
 pub mod Distinct
+pub mod Entrants

@@ -48,7 +48,7 @@ pub weight_is : (r : Reached) (p : ℕ) → HasPlace r.rows p → weight_for (fr
 weight_is r p h = let x = finds_row r r.rows p h in ap weight_or x.1 ∙ ap (weight_at r.weights) x.2
 
 -- ---- the rows that stay
-keeps_is : (row : InfeasibleRow) (now : Option InfeasibleRow) → keeps row.merit now ≡ keeps_merit row now
+pub keeps_is : (row : InfeasibleRow) (now : Option InfeasibleRow) → keeps row.merit now ≡ keeps_merit row now
 keeps_is row None = refl
 keeps_is row (Some now) = refl
 

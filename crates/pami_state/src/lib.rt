@@ -14,4 +14,4 @@ pub mod state_laws;
 mod tests;
 
 pub use starting::start;
-pub use state::State;
+pub use state::{BatchEnd, State};

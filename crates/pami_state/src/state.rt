@@ -26,6 +26,15 @@ pub struct State {
     pub pivots: u32,
 }
 
+/// What a batch leaves of a state before its values are collected: the variable at each place, where each variable stands,
+/// and the reduced cost of each variable.
+#[derive(Debug, Drop)]
+pub struct BatchEnd {
+    pub head: PlaceList,
+    pub stands: StandList,
+    pub reduced: FracList,
+}
+
 /// The place of a basic variable.
 fn place_of(head: &[u32], variable: u32) -> usize
     requires { (p : ℕ) × (p < length head.now) × (slice_index_or head.now p 0 ≡ variable) }

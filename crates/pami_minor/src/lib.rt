@@ -1,0 +1,21 @@
+//! The inside of a batch: rows that leave one after the other, each at a basis that is reached by single pivots.
+//!
+//! Stands on `pami_deferral`, whose laws say that what is kept of the remaining rows may be brought up to date pivot by
+//! pivot, and on `pami_price`, `pami_bfrt` and `pami_devex` for what a step reads. The layers above may rely on each call
+//! giving what its task gives at the basis that the batch has reached, or the first operation of its script that doesn't fit.
+#![tactic(auto)]
+
+mod flips;
+mod kept;
+mod minor;
+mod pick;
+mod reach;
+mod row;
+mod shift;
+mod walk;
+
+pub use minor::Minor;
+pub use reach::reach_at;
+pub use row::{Reached, Remaining, RowPick};
+pub use shift::shift_at;
+pub use walk::{Leaving, walk_at};
