@@ -5,3 +5,10 @@ pub mod Picks
 pub mod Places
 pub mod Among
 pub mod NextRow
+pub mod StepScripts
+pub mod WalkedRow
+pub mod Slices
+pub mod Walking
+pub mod Turned
+pub mod Once
+pub mod Stepping

@@ -65,7 +65,7 @@ less_one (y ∷ ys) x p (inr m) e =
     less_by (not (nat_eq y.place p)) y (filter (λ (z : InfeasibleRow). not (nat_eq z.place p)) ys) (length ys) (less_one ys x p m e)
 
 -- ---- the row that is picked
-picked_has : (f : Form) (r : Reached) (row : InfeasibleRow) (others : List InfeasibleRow)
+pub picked_has : (f : Form) (r : Reached) (row : InfeasibleRow) (others : List InfeasibleRow)
     → ordered is_chosen_before (filter_map (row_now f r) (staying f r)) ≡ row ∷ others → (x : InfeasibleRow) × Has (staying f r) x × (x.place ≡ row.place)
 picked_has f r row others e =
     let now : List InfeasibleRow = filter_map (row_now f r) (staying f r) in
@@ -115,12 +115,16 @@ picks f limit r old new p h k below e a =
       a.5,
       record {
         reached = h.reached;
-        pick = record { below = λ s. below (h.count ∙ s ∙ sym h.limit_is); others = a.1; first = a.2 };
+        pick = record { below = λ s. below (h.limited.count_is ∙ s ∙ sym h.limited.limit_is); others = a.1; first = a.2 };
         head = ap (λ v. v.items) k.head ∙ h.head;
         stands = ap (λ v. v.items) k.stands ∙ h.stands;
         reduced = ap (λ v. v.items) k.reduced ∙ h.reduced;
-        count = k.count ∙ h.count;
-        limit_is = k.limit ∙ h.limit_is;
+        limited = record {
+          count_is = k.count ∙ h.limited.count_is;
+          limit_is = k.limit ∙ h.limited.limit_is;
+          most = h.limited.most;
+          few = h.limited.few;
+        };
         rows = a.4;
         picked = (p, e, a.3);
         priced = record { at = λ slice l. absurd (omega arith) };
@@ -147,7 +151,7 @@ stopped f limit r old new h a b c = record {
 pub stops_at_limit : (f : Form) (limit : ℕ) (r : Reached) (old new : Minor) → IsFreshMinor f limit r old → new.head ≡ old.head → new.stands ≡ old.stands
     → new.reduced ≡ old.reduced → old.count ≡ old.limit → new.dropped.items ≡ [] → Stops f limit r new.dropped.items × IsStopped f r new
 stops_at_limit f limit r old new h a b c e d =
-    let met : r.count ≡ limit = sym h.count ∙ e ∙ h.limit_is in (
+    let met : r.count ≡ limit = sym h.limited.count_is ∙ e ∙ h.limited.limit_is in (
       inl (ap (λ t. cond t AtLimit (with_rows f r (ordered is_chosen_before (filter_map (row_now f r) (staying f r))))) (eq-eqb r.count limit met), d),
       stopped f limit r old new h a b c,
     )
@@ -156,7 +160,7 @@ pub stops_without_rows : (f : Form) (limit : ℕ) (r : Reached) (old new : Minor
     → new.reduced ≡ old.reduced → ¬ (old.count ≡ old.limit) → FollowsAmong f r r.rows new.rows.items new.dropped.items (Ok None)
     → Stops f limit r new.dropped.items × IsStopped f r new
 stops_without_rows f limit r old new h a b c below e =
-    let unmet : nat_eq r.count limit ≡ false = ne_eqb r.count limit (λ s. below (h.count ∙ s ∙ sym h.limit_is)) in (
+    let unmet : nat_eq r.count limit ≡ false = ne_eqb r.count limit (λ s. below (h.limited.count_is ∙ s ∙ sym h.limited.limit_is)) in (
       inr (
         ap (λ t. cond t AtLimit (with_rows f r (ordered is_chosen_before (filter_map (row_now f r) (staying f r))))) unmet ∙ ap (with_rows f r) e.0,
         e.1,

@@ -2,18 +2,26 @@
 use Rattle.std.specs.Prelude.{◌≡◌, ℕ, ◌⊎◌, not, List, [], ◌∷◌, Option, None, Some, Result, Ok, Err, nat_eq, cond}
 use Rattle.std.specs.List.{filter, filter_map}
 use Rattle.pami_frac.specs.declared.arithmetic.Refused.{Refused}
+use Rattle.pami_frac.specs.declared.list.Entry.{Entry}
 use Rattle.pami_theory.specs.Form.{Form}
+use Rattle.pami_theory.specs.Fresh.{row_at}
+use Rattle.pami_theory.specs.Ratio.{row_entry}
+use Rattle.pami_price.specs.Agreement.{nonzero_entries}
 use Rattle.pami_theory.specs.Choice.{InfeasibleRow, is_chosen_before}
 use Rattle.pami_theory.specs.Order.{ordered}
 use Rattle.pami_script.specs.Script.{each_member}
 use Rattle.pami_method.specs.Batch.{Reached, AtLimit, NoRow, turn, dropped, places, row_now, is_attractive}
-use Rattle.pami_method.specs.Scripts.{row_script, place_script}
+use Rattle.pami_method.specs.Scripts.{row_script, place_script, nonbasic_in}
 use Rattle.pami_minor.specs.declared.row.RowPick.{RowPick}
 use Rattle.pami_minor.specs.declared.row.RowPick.TheVariants.{Row, Stop}
 use Rattle.pami_minor.specs.declared.kept.Kept.{Kept}
 use Rattle.pami_minor.specs.declared.kept.Picked.{Picked}
 use Rattle.pami_minor.specs.declared.minor.Minor.{Minor}
 use Rattle.pami_minor.specs.Fresh.{IsReached, AreFreshRows, IsPickedRow, IsPricing}
+
+-- the entries of the row in a slice, as the basis has them
+abbrev pub IsPriceOf : Form → Reached → InfeasibleRow → ℕ → List Entry → Type 0
+IsPriceOf f r row slice es = es ≡ nonzero_entries (row_entry f (row_at r.fresh row.place)) (nonbasic_in f r.basis slice)
 
 -- the batch stops, with these drops
 abbrev pub Stops : Form → ℕ → Reached → List ℕ → Type 0

@@ -1,5 +1,5 @@
 -- What a Minor keeps is what is solved afresh at the basis that its batch has reached.
-use Rattle.std.specs.Prelude.{◌≡◌, ℕ, suc, ◌+◌, ◌*◌, ◌<◌, ◌≤◌, false, not, List, [], ◌∷◌, ◌++◌, length, take, drop, Option, None, Some, nat_eq, nat_lt, cond, slice_index_or, vec_len, vec_capacity}
+use Rattle.std.specs.Prelude.{◌≡◌, ℕ, suc, ◌+◌, ◌*◌, ◌<◌, ◌≤◌, ◌^◌, false, not, List, [], ◌∷◌, ◌++◌, length, take, drop, Option, None, Some, nat_eq, nat_lt, cond, slice_index_or, vec_len, vec_capacity}
 use Rattle.std.specs.List.{filter, filter_map}
 use Rattle.pami_linear.specs.Lists.{get}
 use Rattle.pami_theory.specs.Form.{Form, variables, limits}
@@ -9,9 +9,7 @@ use Rattle.pami_theory.specs.Order.{ordered}
 use Rattle.pami_theory.specs.Weights.{weight_at}
 use Rattle.pami_theory.specs.Choice.{InfeasibleRow, is_chosen_before}
 use Rattle.pami_theory.specs.Ratio.{row_entry}
-use Rattle.pami_theory.specs.Step as theory
-use Rattle.pami_theory.specs.Step.{is_among, flips_change, theta}
-use Rattle.pami_theory.specs.Violation.{passed_bound}
+use Rattle.pami_theory.specs.Step.{is_among}
 use Rattle.pami_method.specs.Batch as batch
 use Rattle.pami_method.specs.Batch.{Reached, places, row_now, staying}
 use Rattle.pami_method.specs.Scripts.{nonbasic_in}
@@ -21,6 +19,7 @@ use Rattle.pami_devex.specs.Weights.{AreWeights}
 use Rattle.pami_deferral.specs.SolvedBatch.{IsSolvedPivot}
 use Rattle.pami_deferral.specs.Inside.{IsPlaced}
 use Rattle.pami_vec.specs.declared.step.Step.{Step}
+use Rattle.pami_minor.specs.Steps.{IsStepOf}
 use Rattle.pami_minor.specs.declared.kept.Kept.{Kept}
 use Rattle.pami_minor.specs.declared.kept.Picked.{Picked}
 use Rattle.pami_minor.specs.declared.minor.Minor.{Minor}
@@ -63,6 +62,13 @@ pub record HasRoom (n m : ℕ) (minor : Minor) : Type 0 where
   pub steps : vec_len minor.steps + m ≤ vec_capacity minor.steps
   pub slices : length minor.alpha.items ≡ slices (length minor.stands.items)
 
+-- so many pivots are counted, within the limit
+pub record IsLimited (limit count : ℕ) (minor : Minor) : Type 0 where
+  pub count_is : minor.count ≡ count
+  pub limit_is : minor.limit ≡ limit
+  pub most : count ≤ limit
+  pub few : limit < 2 ^ 32
+
 -- ---- before a row
 
 -- each remaining row, all stands and all reduced costs are those of the basis that the batch has reached
@@ -71,8 +77,7 @@ pub record IsFreshMinor (f : Form) (limit : ℕ) (r : Reached) (minor : Minor) :
   pub head : minor.head.items ≡ r.basis.head
   pub stands : minor.stands.items ≡ r.basis.stands
   pub reduced : minor.reduced.items ≡ r.fresh.reduced
-  pub count : minor.count ≡ r.count
-  pub limit_is : minor.limit ≡ limit
+  pub limited : IsLimited limit r.count minor
   pub rows : AreFreshRows f r minor.rows.items r.rows
   pub room : HasRoom (length r.rows) (length r.rows) minor
 
@@ -108,26 +113,13 @@ pub record IsPricing (f : Form) (limit : ℕ) (r : Reached) (row : InfeasibleRow
   pub head : minor.head.items ≡ r.basis.head
   pub stands : minor.stands.items ≡ r.basis.stands
   pub reduced : minor.reduced.items ≡ r.fresh.reduced
-  pub count : minor.count ≡ r.count
-  pub limit_is : minor.limit ≡ limit
+  pub limited : IsLimited limit r.count minor
   pub rows : AreFreshRows f r minor.rows.items (rest_of f r row)
   pub picked : (k : Picked) × (minor.picked ≡ Some k) × IsPickedRow r row k
   pub priced : ArePriced f r row n minor
   pub room : HasRoom (length (rest_of f r row)) (suc (length (rest_of f r row))) minor
 
 -- ---- between a step and the next row
-
--- the step of a program is the one that the basis takes
-pub record IsStepOf (f : Form) (r : Reached) (t : theory.Step) (step : Step) : Type 0 where
-  pub place : step.place ≡ t.place
-  pub leaving : step.leaving ≡ t.leaving
-  pub entering : step.entering ≡ t.entering
-  pub tau : step.tau ≡ t.tau
-  pub theta_is : step.theta ≡ theta f r.basis r.fresh t
-  pub bound : step.bound ≡ passed_bound (limits f t.leaving) t.side
-  pub old_value : step.old_value ≡ get r.fresh.values t.entering
-  pub flips_by_row : length step.flip_column ≡ f.rows
-  pub flips : (i : ℕ) → i < f.rows → get step.flip_column i ≡ flips_change f r.basis t.flips i
 
 -- the reduced costs of the first n slices are those of the basis behind the pivot, the others those of the one before it
 pub record AreShifted (f : Form) (before behind : Reached) (n : ℕ) (minor : Minor) : Type 0 where
@@ -142,13 +134,12 @@ pub record IsStepping (f : Form) (limit : ℕ) (m : batch.Minor) (next : Reached
   pub pivot : IsSolvedPivot f limit m next
   pub head : minor.head.items ≡ next.basis.head
   pub stands : minor.stands.items ≡ next.basis.stands
-  pub count : minor.count ≡ next.count
-  pub limit_is : minor.limit ≡ limit
+  pub limited : IsLimited limit next.count minor
   pub within : i ≤ length next.rows
   pub reached_rows : AreFreshRows f next (take i minor.rows.items) (take i next.rows)
   pub other_rows : AreFreshRows f m.reached (drop i minor.rows.items) (drop i next.rows)
   pub shifted : AreShifted f m.reached next j minor
   pub picked : (k : Picked) × (minor.picked ≡ Some k) × IsPickedRow m.reached m.row k
   pub priced : ArePriced f m.reached m.row (slices (variables f)) minor
-  pub step : (earlier : List Step) × (last : Step) × (minor.steps.items ≡ earlier ++ last ∷ []) × IsStepOf f m.reached m.step last
+  pub step : (earlier : List Step) × (last : Step) × (minor.steps.items ≡ earlier ++ last ∷ []) × IsStepOf f m.reached.basis m.reached.fresh m.step last
   pub room : HasRoom (length next.rows) (length next.rows) minor

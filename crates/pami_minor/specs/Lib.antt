@@ -4,5 +4,8 @@ pub mod Reach
 pub mod Shift
 pub mod Rows
 pub mod Picks
+pub mod Joined
+pub mod Turned
+pub mod Steps
 pub mod Fresh
 pub mod Follow

@@ -12,6 +12,7 @@ mod pick;
 mod reach;
 mod row;
 mod shift;
+mod turns;
 mod walk;
 
 pub use minor::Minor;

@@ -6,6 +6,9 @@ ghost use Rattle.pami_frac.specs.Answers.{FollowsBy};
 ghost use Rattle.pami_script.specs.Dense.{Rising};
 ghost use Rattle.pami_theory.specs.Fresh.{standing_value as the_standing_value};
 ghost use Rattle.pami_theory.specs.declared.words.Stand.TheVariants.{Basic};
+ghost use Rattle.pami_theory.specs.Basis.{Basis};
+ghost use Rattle.pami_theory.specs.Fresh.{Fresh};
+ghost use Rattle.pami_minor.specs.Steps.{form_of, AreWalked, FollowsWalk};
 ghost use Rattle.pami_minor.specs.Walked.{bounds_at, bound_of as the_bound_of, move_by, walk_by, walked};
 
 use crate::flips::{flip_column, step_length};
@@ -76,15 +79,8 @@ fn move_row(
     Ok(StepMove { theta, flips })
 }
 
-/// The dual ratio test with bound flipping at a row that leaves, and the step where a variable enters. Stands and reduced
-/// costs go by variable, `rho`, the place's row of the inverse, by row; `alpha` has the entries of the pivot row at the
-/// nonbasic variables that aren't 0, ascending.
-///
-/// # Errors
-///
-/// `Named` exactly where an operation doesn't fit: the first such, those of the walk before those of the step.
-/// `OutOfMemory` where memory runs out.
-pub fn walk_at(
+/// `walk_at`, by its script alone, so that its parts are proved without the other clause.
+fn walk_row(
     alloc: Global,
     form: &Form,
     stands: &[Stand],
@@ -98,7 +94,7 @@ pub fn walk_at(
     requires rising { Rising 0 (length form.now.columns) alpha.now }
     requires rows { length rho.now ≡ form.now.rows }
     requires variable { row.now.variable < length form.now.columns }
-    ensures script { FollowsBy walked (walk_by form.now stands.now reduced.now alpha.now rho.now row.now) result }
+    ensures { FollowsBy walked (walk_by form.now stands.now reduced.now alpha.now rho.now row.now) result }
 {
     let walk = ratio_walk(
         alloc,
@@ -138,4 +134,34 @@ pub fn walk_at(
             ))
         }
     }
+}
+
+/// The dual ratio test with bound flipping at a row that leaves, and the step where a variable enters. Stands and reduced
+/// costs go by variable, `rho`, the place's row of the inverse, by row; `alpha` has the entries of the pivot row at the
+/// nonbasic variables that aren't 0, ascending.
+///
+/// # Errors
+///
+/// `Named` exactly where an operation doesn't fit: the first such, those of the walk before those of the step.
+/// `OutOfMemory` where memory runs out.
+pub fn walk_at(
+    alloc: Global,
+    form: &Form,
+    stands: &[Stand],
+    reduced: &[Frac],
+    alpha: &[Entry],
+    rho: &SpVec,
+    row: &Leaving,
+) -> Result<(Walk, Option<Step>), Fault<Refused>>
+    requires stands { length stands.now ≡ length form.now.columns }
+    requires reduced { length reduced.now ≡ length form.now.columns }
+    requires rising { Rising 0 (length form.now.columns) alpha.now }
+    requires rows { length rho.now ≡ form.now.rows }
+    requires variable { row.now.variable < length form.now.columns }
+    ensures script { FollowsBy walked (walk_by form.now stands.now reduced.now alpha.now rho.now row.now) result }
+    // Over what is solved at a basis it is the walk and the step of the theory, with the operations of the method.
+    ensures fresh { (b : Basis) (s : Fresh) → AreWalked (form_of form.now) b s stands.now reduced.now alpha.now rho.now row.now
+        → FollowsWalk (form_of form.now) b s row.now.place row.now.violation result }
+{
+    walk_row(alloc, form, stands, reduced, alpha, rho, row)
 }

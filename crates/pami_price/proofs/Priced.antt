@@ -137,7 +137,7 @@ slice_first count slice = ⊎_elim
     ∙ append-nil (range_with_len (64 * slice) (slice_size count slice)) ∙ ap (range_with_len (64 * slice)) h.0))
     (lesser_cases (count - 64 * slice))
 
-row_from : (f : Form) (b : theory.Basis) (rho : List Fraction) (slice : ℕ) → nonzero_entries (row_entry f rho) (filter (nonbasic b) (range_with_len (64 * slice) (variables f - 64 * slice)))
+pub row_from : (f : Form) (b : theory.Basis) (rho : List Fraction) (slice : ℕ) → nonzero_entries (row_entry f rho) (filter (nonbasic b) (range_with_len (64 * slice) (variables f - 64 * slice)))
     ≡ nonzero_entries (row_entry f rho) (method.nonbasic_in f b slice) ++ nonzero_entries (row_entry f rho) (filter (nonbasic b) (range_with_len (64 * (slice + 1)) (variables f - 64 * (slice + 1))))
 row_from f b rho slice =
     ap (λ vs. nonzero_entries (row_entry f rho) (filter (nonbasic b) vs)) (slice_first (variables f) slice)
