@@ -12,3 +12,7 @@ pub mod Walking
 pub mod Turned
 pub mod Once
 pub mod Stepping
+pub mod Nth
+pub mod Reaching
+pub mod ReachReady
+pub mod RowsBehind

@@ -9,3 +9,4 @@ pub mod Turned
 pub mod Steps
 pub mod Fresh
 pub mod Follow
+pub mod Behind

@@ -5,6 +5,7 @@
 //! giving what its task gives at the basis that the batch has reached, or the first operation of its script that doesn't fit.
 #![tactic(auto)]
 
+mod behind;
 mod flips;
 mod kept;
 mod minor;
