@@ -16,3 +16,6 @@ pub mod Nth
 pub mod Reaching
 pub mod ReachReady
 pub mod RowsBehind
+pub mod Shifting
+pub mod ShiftFollows
+pub mod CostsBehind

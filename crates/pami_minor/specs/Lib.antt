@@ -10,3 +10,5 @@ pub mod Steps
 pub mod Fresh
 pub mod Follow
 pub mod Behind
+pub mod Costs
+pub mod Shifts

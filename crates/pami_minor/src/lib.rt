@@ -6,6 +6,7 @@
 #![tactic(auto)]
 
 mod behind;
+mod costs;
 mod flips;
 mod kept;
 mod minor;
