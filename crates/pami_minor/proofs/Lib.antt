@@ -19,3 +19,4 @@ pub mod RowsBehind
 pub mod Shifting
 pub mod ShiftFollows
 pub mod CostsBehind
+pub mod FreshAgain
