@@ -1,6 +1,6 @@
 -- Picking among rows that are fresh.
-use Rattle.std.proofs.Common.{◌≡◌, ℕ, suc, ◌+◌, ◌<◌, ◌≤◌, inl, inr, Bool, not, nat_eq, List, [], ◌∷◌, ◌++◌, map, take, drop, length, get_or, Option, None, Some, Result, Ok, Err, refl, sym, ap, ◌∙◌, subst, arith}
-use Rattle.std.specs.List.{filter, filter_map, All}
+use Rattle.std.proofs.Common.{◌≡◌, ℕ, suc, ◌+◌, inl, not, nat_eq, List, [], ◌∷◌, ◌++◌, map, take, drop, length, Option, None, Some, Ok, refl, sym, ap, ◌∙◌, subst, arith}
+use Rattle.std.specs.List.{filter, filter_map}
 use Rattle.std.specs.Option.{option_map}
 use Rattle.std.proofs.lemmas.Option.{none-some}
 use Rattle.pami_theory.specs.Form.{Form}
@@ -11,16 +11,16 @@ use Rattle.pami_theory.specs.Choice.{InfeasibleRow, is_chosen_before}
 use Rattle.pami_theory.proofs.Members.{Has}
 use Rattle.pami_theory.proofs.Orders.{ordered_has}
 use Rattle.pami_theory.proofs.Chosen.{filter_map_has}
-use Rattle.pami_method.specs.Batch.{Reached, places, row_now, is_attractive}
+use Rattle.pami_method.specs.Batch.{Reached, row_now, is_attractive}
 use Rattle.pami_method.proofs.Turns.{infeasible_is}
 use Rattle.pami_minor.specs.declared.row.RowNow.{RowNow}
 use Rattle.pami_minor.specs.declared.kept.Kept.{Kept}
 use Rattle.pami_minor.specs.declared.kept.Picked.{Picked}
 use Rattle.pami_minor.specs.Rows.{row_seen, looks_by}
-use Rattle.pami_minor.specs.Picks.{remaining_of, staying_by, dropped_by, best_by, IsRowAt, HasRowAt, TakesRow, TakesBest}
-use Rattle.pami_minor.specs.Fresh.{IsFreshRow, AreFreshRows, AreApart, IsPickedRow}
+use Rattle.pami_minor.specs.Picks.{remaining_of, staying_by, dropped_by, best_by, IsRowAt, HasRowAt, TakesBest}
+use Rattle.pami_minor.specs.Fresh.{AreFreshRows, AreApart}
 use Rattle.pami_minor.specs.Follow.{FollowsAmong}
-use Rattle.pami_minor.proofs.Looks.{AreLooked, head_of, looked, looks_refused}
+use Rattle.pami_minor.proofs.Looks.{AreLooked, head_of, looked}
 use Rattle.pami_minor.proofs.Places.{find_fresh, taken_fresh, filter_apart}
 
 -- ---- the first of a list

@@ -1,7 +1,7 @@
 -- One slice more of the reduced costs of a Minor is brought behind the step.
-use Rattle.std.proofs.Common.{◌≡◌, ℕ, zero, suc, ◌+◌, ◌-◌, ◌*◌, ◌/◌, ◌<◌, ◌≤◌, ◌⊎◌, inl, inr, ⊎_elim, Bool, true, false, cond, not, nat_eq, nat_lt, List, [], ◌∷◌, ◌++◌, length, get_or, set, take, drop, refl, sym, ap, ◌∙◌, subst, arith, true≢false, vec_len, vec_capacity}
+use Rattle.std.proofs.Common.{◌≡◌, ℕ, zero, suc, ◌+◌, ◌-◌, ◌*◌, ◌/◌, ◌<◌, ◌≤◌, ◌⊎◌, inl, inr, ⊎_elim, Bool, true, false, cond, not, nat_eq, List, [], ◌∷◌, ◌++◌, length, set, take, drop, refl, sym, ap, ◌∙◌, subst, arith, true≢false}
 use Rattle.std.specs.List.{All, range_with_len}
-use Rattle.std.proofs.lemmas.Bool.{cases_eq, cases_lt, eqb-true, eq-eqb, ne_eqb, lt-ltb, le-ltb}
+use Rattle.std.proofs.lemmas.Bool.{cases_eq, cases_lt, eq-eqb, ne_eqb, lt-ltb, le-ltb}
 use Rattle.std.proofs.lemmas.List.{length-set, get_or-set_same, get_or-set_other, drop_all, append-nil}
 use Rattle.std.proofs.lemmas.List.Elements.{All-nil, All-cons}
 use Rattle.pami_algebra.specs.Fraction.{Fraction}
@@ -13,14 +13,13 @@ use Rattle.pami_theory.specs.Basis.{Basis, head_at, stand_at}
 use Rattle.pami_theory.specs.Ratio.{toward, row_entry}
 use Rattle.pami_theory.specs.Step as theory
 use Rattle.pami_theory.specs.Weights.{lesser}
-use Rattle.pami_theory.specs.declared.words.Side.{Side}
 use Rattle.pami_theory.proofs.NextCosts.{step_leaving, step_entering}
 use Rattle.pami_method.specs.Batch as batch
 use Rattle.pami_method.specs.Batch.{Reached}
 use Rattle.pami_method.specs.Scripts.{is_nonbasic, slice_variables}
 use Rattle.pami_price.specs.Slices.{slices}
 use Rattle.pami_deferral.specs.Inside.{fresh_inside, row_for}
-use Rattle.pami_deferral.proofs.Chains.{Links, pivot_links, next_fresh}
+use Rattle.pami_deferral.proofs.Chains.{pivot_links, next_fresh}
 use Rattle.pami_deferral.proofs.Pivots.{cost_there}
 use Rattle.pami_vec.specs.declared.step.Step.{Step}
 use Rattle.pami_minor.specs.declared.minor.Minor.{Minor}
@@ -28,8 +27,7 @@ use Rattle.pami_minor.specs.Costs.{costs, put_all, cost_in}
 use Rattle.pami_minor.specs.Shifts.{is_shifted, AreCosts}
 use Rattle.pami_minor.specs.Steps.{IsStepOf}
 use Rattle.pami_minor.specs.Fresh.{IsStepping, AreShifted}
-use Rattle.pami_minor.proofs.NextRow.{KeepsRest}
-use Rattle.pami_minor.proofs.ReachReady.{walk_of, entering_low}
+use Rattle.pami_minor.proofs.ReachReady.{walk_of}
 use Rattle.pami_minor.proofs.Nth.{pivot_low}
 
 -- ---- costs put in

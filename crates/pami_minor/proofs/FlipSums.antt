@@ -9,13 +9,10 @@ use Rattle.pami_script.specs.Script.{each_member, add_product}
 use Rattle.pami_script.specs.Dense.{at}
 use Rattle.pami_script.proofs.Scripts.{then_go, then_stop}
 use Rattle.pami_vec.specs.Entries.{AreEntriesOf}
-use Rattle.pami_vec.proofs.Scripted.{get_at}
-use Rattle.pami_theory.specs.Form.{zero_f}
 use Rattle.pami_theory.specs.Step.{is_among}
 use Rattle.pami_state.specs.Columns.{column_of}
-use Rattle.pami_vec.specs.declared.change.Change.{Change}
 use Rattle.pami_vec.specs.declared.change.Change.TheVariants.{More}
-use Rattle.pami_vec.specs.Changes.{changed, AreChanged, IsStopped}
+use Rattle.pami_vec.specs.Changes.{AreChanged, IsStopped}
 use Rattle.pami_minor.specs.Flips.{flips_by}
 use Rattle.pami_vec.proofs.Changed.{change_ok, change_err}
 

@@ -1,5 +1,5 @@
 -- The rows that are kept are looked at as the batch's rows are: the same stay, the same are dropped, the same one is best.
-use Rattle.std.proofs.Common.{◌≡◌, ℕ, suc, ◌<◌, Bool, true, false, not, cond, List, [], ◌∷◌, map, length, Option, None, Some, Result, Ok, Err, refl, sym, ap, ◌∙◌, subst}
+use Rattle.std.proofs.Common.{◌≡◌, ℕ, suc, Bool, true, false, not, cond, List, [], ◌∷◌, map, length, Option, None, Some, Result, Ok, Err, refl, sym, ap, ◌∙◌, subst}
 use Rattle.std.specs.List.{filter, filter_map, cons_option}
 use Rattle.std.proofs.lemmas.List.{length-map}
 use Rattle.std.specs.Option.{option_map}
@@ -8,14 +8,13 @@ use Rattle.pami_script.specs.Script.{then, each_member}
 use Rattle.pami_script.proofs.Scripts.{then_ok}
 use Rattle.pami_theory.specs.Form.{Form, limits}
 use Rattle.pami_theory.specs.Basis.{head_at}
-use Rattle.pami_theory.specs.Fresh.{value_at_place}
 use Rattle.pami_theory.specs.Order.{put_in, ordered}
 use Rattle.pami_theory.specs.Weights.{weight_at}
 use Rattle.pami_theory.specs.declared.words.Violation.{Violation}
 use Rattle.pami_theory.specs.Violation.{violation}
 use Rattle.pami_theory.specs.Choice.{InfeasibleRow, row_of, is_chosen_before}
-use Rattle.pami_method.specs.Batch.{Reached, places, row_now, keeps_merit, is_attractive}
-use Rattle.pami_method.specs.Scripts.{violation_script, row_script, place_script}
+use Rattle.pami_method.specs.Batch.{Reached, places, row_now, is_attractive}
+use Rattle.pami_method.specs.Scripts.{violation_script, place_script}
 use Rattle.pami_method.proofs.Values.{violation_value}
 use Rattle.pami_deferral.specs.Inside.{keeps}
 use Rattle.pami_deferral.proofs.KeptTurns.{keeps_is}

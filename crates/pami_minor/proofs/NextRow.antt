@@ -1,11 +1,10 @@
 -- The next row of a Minor that is fresh: it is picked as the batch's turn has it, or the batch stops.
-use Rattle.std.proofs.Common.{◌≡◌, ℕ, zero, suc, ◌+◌, ◌<◌, ◌≤◌, inl, inr, Bool, true, false, not, cond, nat_eq, List, [], ◌∷◌, length, get_or, Option, None, Some, Result, Ok, refl, sym, ap, ◌∙◌, subst, arith, true≢false, vec_len, vec_capacity}
-use Rattle.std.specs.List.{filter, filter_map, Contains}
+use Rattle.std.proofs.Common.{◌≡◌, ℕ, zero, suc, ◌<◌, ◌≤◌, inl, inr, Bool, true, false, not, cond, nat_eq, List, [], ◌∷◌, length, get_or, Option, None, Some, Ok, refl, sym, ap, ◌∙◌, subst, arith, vec_len, vec_capacity}
+use Rattle.std.specs.List.{filter, filter_map}
 use Rattle.std.proofs.lemmas.Bool.{eq-eqb, ne_eqb}
 use Rattle.pami_theory.specs.Form.{Form}
 use Rattle.pami_theory.specs.Order.{ordered}
 use Rattle.pami_theory.specs.Choice.{InfeasibleRow, is_chosen_before}
-use Rattle.pami_theory.specs.Step.{is_among}
 use Rattle.pami_theory.proofs.Members.{Has, contains_from}
 use Rattle.pami_theory.proofs.Orders.{ordered_has}
 use Rattle.pami_theory.proofs.Chosen.{filter_map_has}
@@ -16,8 +15,8 @@ use Rattle.pami_method.proofs.Turns.{infeasible_is}
 use Rattle.pami_minor.specs.declared.kept.Kept.{Kept}
 use Rattle.pami_minor.specs.declared.kept.Picked.{Picked}
 use Rattle.pami_minor.specs.declared.minor.Minor.{Minor}
-use Rattle.pami_minor.specs.Fresh.{IsFreshRow, AreFreshRows, IsFreshMinor, IsPricing, HasRoom, rest_of}
-use Rattle.pami_minor.specs.Follow.{FollowsAmong, FollowsPick, Stops, IsStopped}
+use Rattle.pami_minor.specs.Fresh.{AreFreshRows, IsFreshMinor, IsPricing, rest_of}
+use Rattle.pami_minor.specs.Follow.{FollowsAmong, Stops, IsStopped}
 use Rattle.std.proofs.lemmas.Option.{none-some}
 use Rattle.pami_price.specs.Slices.{slices}
 use Rattle.pami_minor.proofs.Among.{fresh_length}

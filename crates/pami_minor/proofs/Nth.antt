@@ -1,6 +1,5 @@
 -- The next row that a batch brings up to date: where it is kept, and that it is the first at its place.
-use Rattle.std.proofs.Common.{◌≡◌, ℕ, zero, suc, ◌+◌, ◌<◌, ◌≤◌, inl, inr, ⊎_elim, not, nat_eq, List, [], ◌∷◌, length, get_or, set, take, drop, refl, sym, ap, ◌∙◌, subst, arith}
-use Rattle.std.specs.List.{filter}
+use Rattle.std.proofs.Common.{◌≡◌, ℕ, zero, suc, ◌<◌, ◌≤◌, ⊎_elim, not, nat_eq, List, [], ◌∷◌, length, get_or, take, drop, refl, sym, ap, ◌∙◌, subst, arith}
 use Rattle.std.proofs.lemmas.Bool.{cases_lt}
 use Rattle.std.proofs.lemmas.List.{get_or_default}
 use Rattle.pami_deferral.specs.SolvedBatch.{IsSolvedPivot}
@@ -8,12 +7,12 @@ use Rattle.pami_deferral.proofs.Chains.{pivot_links}
 use Rattle.pami_deferral.proofs.Pivots.{next_placed}
 use Rattle.pami_theory.specs.Form.{Form}
 use Rattle.pami_theory.specs.Choice.{InfeasibleRow}
-use Rattle.pami_theory.proofs.Members.{Has, has_from}
+use Rattle.pami_theory.proofs.Members.{has_from}
 use Rattle.pami_method.specs.Batch as batch
 use Rattle.pami_method.specs.Batch.{Reached, is_attractive, staying}
 use Rattle.pami_minor.specs.declared.kept.Kept.{Kept}
 use Rattle.pami_minor.specs.declared.minor.Minor.{Minor}
-use Rattle.pami_minor.specs.Picks.{IsRowAt, HasRowAt}
+use Rattle.pami_minor.specs.Picks.{HasRowAt}
 use Rattle.pami_minor.specs.Behind.{IsRowOf, IsFirstAt}
 use Rattle.pami_minor.specs.Fresh.{IsFreshRow, AreFreshRows, AreApart, IsStepping}
 use Rattle.pami_minor.proofs.Places.{apart_from, filter_apart}

@@ -1,12 +1,12 @@
 -- The flips of a walk: variables that exist, each of them once.
-use Rattle.std.proofs.Common.{◌≡◌, ℕ, zero, suc, ◌+◌, ◌<◌, ◌≤◌, inl, inr, ⊎_elim, ◌⊎◌, Bool, true, false, cond, ◌||◌, nat_eq, List, [], ◌∷◌, length, get_or, Some, refl, sym, ap, ◌∙◌, subst, arith, true≢false}
+use Rattle.std.proofs.Common.{◌≡◌, ℕ, zero, suc, ◌+◌, ◌<◌, inl, inr, ⊎_elim, ◌⊎◌, Bool, true, false, cond, ◌||◌, nat_eq, List, [], ◌∷◌, Some, refl, sym, ap, ◌∙◌, subst, arith, true≢false}
 use Rattle.std.specs.List.{All, filter, range_with_len}
 use Rattle.std.proofs.lemmas.List.Elements.{All-nil, All-cons}
-use Rattle.std.proofs.lemmas.Bool.{eqb-true, eq-eqb, ne_eqb}
+use Rattle.std.proofs.lemmas.Bool.{eqb-true, eq-eqb}
 use Rattle.pami_theory.specs.Form.{Form, variables}
 use Rattle.pami_theory.specs.Basis.{Basis}
 use Rattle.pami_theory.specs.Order.{put_in, ordered}
-use Rattle.pami_theory.specs.Ratio.{Leaving, Entering, is_candidate, walks_before, walk_order, entering_at, ratio_walk}
+use Rattle.pami_theory.specs.Ratio.{Leaving, Entering, is_candidate, walks_before, walk_order, ratio_walk}
 use Rattle.pami_theory.specs.Step.{is_among}
 use Rattle.pami_theory.proofs.Members.{Has, filter_has, range_has}
 use Rattle.pami_theory.proofs.Orders.{ordered_has}

@@ -1,5 +1,5 @@
 -- What a reach asks for, in a Minor behind a step.
-use Rattle.std.proofs.Common.{◌≡◌, ℕ, ◌+◌, ◌/◌, ◌<◌, List, [], length, get_or, true, Some, refl, sym, ap, ◌∙◌, subst, arith}
+use Rattle.std.proofs.Common.{◌≡◌, ℕ, ◌/◌, ◌<◌, List, [], length, get_or, true, Some, sym, ap, ◌∙◌, subst, arith}
 use Rattle.pami_frac.specs.declared.list.Entry.{Entry}
 use Rattle.pami_script.specs.Dense.{at}
 use Rattle.pami_theory.specs.Form.{Form, variables, zero_f}
@@ -11,11 +11,10 @@ use Rattle.pami_theory.proofs.Candidates.{entered_by_walk}
 use Rattle.pami_theory.proofs.Steps.{entry_not_zero}
 use Rattle.pami_method.specs.Batch as batch
 use Rattle.pami_method.specs.Batch.{Reached}
-use Rattle.pami_method.specs.Scripts.{is_nonbasic, nonbasic_in}
+use Rattle.pami_method.specs.Scripts.{is_nonbasic}
 use Rattle.pami_theory.specs.Basis.{stand_at}
 use Rattle.pami_method.proofs.Flips.{step_walk}
 use Rattle.pami_method.proofs.Turns.{pivot_parts}
-use Rattle.pami_price.specs.Agreement.{nonzero_entries}
 use Rattle.pami_price.specs.Slices.{slices}
 use Rattle.pami_deferral.specs.SolvedBatch.{IsSolvedPivot}
 use Rattle.pami_deferral.proofs.Chains.{pivot_links, next_basis}

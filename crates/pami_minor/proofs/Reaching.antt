@@ -1,6 +1,5 @@
 -- A row that remains is brought behind a step: what is worked out is what is solved at the next basis.
-use Rattle.std.proofs.Common.{◌≡◌, ℕ, ◌+◌, ◌-◌, ◌*◌, ◌/◌, ◌<◌, ◌≤◌, ⊎_elim, Bool, true, not, cond, nat_eq, nat_lt, List, [], length, get_or, Option, None, Some, Result, Ok, Err, refl, sym, ap, ◌∙◌, subst, arith, true≢false}
-use Rattle.std.specs.List.{filter, range_with_len}
+use Rattle.std.proofs.Common.{◌≡◌, ℕ, ◌-◌, ◌*◌, ◌/◌, ◌<◌, ◌≤◌, ⊎_elim, true, not, cond, nat_eq, List, length, Some, Result, Ok, Err, refl, sym, ap, ◌∙◌, subst, arith, true≢false}
 use Rattle.std.proofs.lemmas.Option.{same_Some}
 use Rattle.std.proofs.lemmas.Bool.{cases_lt, lt-ltb, le-ltb, eq-eqb}
 use Rattle.pami_algebra.specs.Fraction.{Fraction}
@@ -10,7 +9,6 @@ use Rattle.pami_frac.specs.declared.arithmetic.Refused.{Refused}
 use Rattle.pami_frac.specs.declared.fault.Fault.{Fault}
 use Rattle.pami_frac.specs.declared.fault.Fault.TheVariants as faults
 use Rattle.pami_linear.specs.Lists.{get}
-use Rattle.pami_linear.specs.Sums.{dot}
 use Rattle.pami_script.specs.Script.{then, each_member, add_product, sub_product, add_dot}
 use Rattle.pami_script.proofs.Scripts.{then_ok, then_same, each_same}
 use Rattle.pami_script.specs.Dense.{at}
@@ -25,7 +23,7 @@ use Rattle.pami_theory.specs.Step as theory_step
 use Rattle.pami_theory.specs.Step.{flips_change, theta}
 use Rattle.pami_theory.specs.Weights.{weight_at, lesser}
 use Rattle.pami_theory.specs.Choice.{InfeasibleRow}
-use Rattle.pami_theory.proofs.Members.{Has, has_from, contains_from, filter_has}
+use Rattle.pami_theory.proofs.Members.{Has, contains_from, filter_has}
 use Rattle.pami_method.specs.Batch as batch
 use Rattle.pami_method.specs.Batch.{Reached, staying}
 use Rattle.pami_method.specs.Task.{refusal}
@@ -36,7 +34,7 @@ use Rattle.pami_price.specs.Agreement.{nonzero_entries}
 use Rattle.pami_price.proofs.Rows.{kept_value}
 use Rattle.pami_deferral.specs.Inside.{IsPlaced}
 use Rattle.pami_deferral.specs.Factored.{ReachedRow, reached_script}
-use Rattle.pami_deferral.proofs.Chains.{Links, pivot_links}
+use Rattle.pami_deferral.proofs.Chains.{Links}
 use Rattle.pami_deferral.proofs.KeptTurns.{row_is, weight_is}
 use Rattle.pami_deferral.proofs.Pivots.{weight_there, step_place, next_placed}
 use Rattle.pami_deferral.proofs.ReachScripts.{reached_refusal, reached_fresh}
@@ -46,7 +44,7 @@ use Rattle.pami_minor.specs.declared.row.Reached as program
 use Rattle.pami_minor.specs.Reach.{reach_by}
 use Rattle.pami_minor.specs.Steps.{IsStepOf}
 use Rattle.pami_minor.specs.Fresh.{IsFreshRow, IsPickedRow}
-use Rattle.pami_minor.specs.Behind.{IsReachedRow, FollowsReach}
+use Rattle.pami_minor.specs.Behind.{FollowsReach}
 
 -- ---- the same operations
 dot_is : (f : theory.Form) (row column : List Fraction) (v : ℕ → Fraction) → length row ≡ f.rows → ((h : ℕ) → h < f.rows → get column h ≡ v h)

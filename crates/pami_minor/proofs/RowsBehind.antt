@@ -1,5 +1,5 @@
 -- One row more of a Minor is brought behind the step.
-use Rattle.std.proofs.Common.{◌≡◌, ℕ, zero, suc, ◌+◌, ◌<◌, ◌≤◌, List, [], ◌∷◌, length, get_or, set, take, drop, refl, sym, ap, ◌∙◌, subst, arith, vec_len, vec_capacity}
+use Rattle.std.proofs.Common.{◌≡◌, ℕ, zero, suc, ◌+◌, ◌<◌, List, [], ◌∷◌, length, get_or, set, take, drop, sym, ap, ◌∙◌, subst, arith, vec_len, vec_capacity}
 use Rattle.pami_linear.specs.Lists.{get}
 use Rattle.pami_theory.specs.Form.{Form, limits}
 use Rattle.pami_theory.specs.Basis.{Basis, head_at}
@@ -15,7 +15,7 @@ use Rattle.pami_deferral.proofs.Chains.{pivot_links}
 use Rattle.pami_minor.specs.declared.kept.Kept.{Kept}
 use Rattle.pami_minor.specs.declared.minor.Minor.{Minor}
 use Rattle.pami_minor.specs.declared.row.Reached as program
-use Rattle.pami_minor.specs.Fresh.{IsFreshRow, AreFreshRows, IsStepping, HasRoom}
+use Rattle.pami_minor.specs.Fresh.{IsFreshRow, AreFreshRows, IsStepping}
 use Rattle.pami_minor.specs.Behind.{IsRowOf, IsReachedRow, IsFirstAt}
 use Rattle.pami_minor.proofs.NextRow.{KeepsRest}
 use Rattle.pami_minor.proofs.Nth.{kept_at, first_is}

@@ -1,8 +1,8 @@
 -- A slice of a Minor behind a step: its costs are brought to the next basis by the method's operations.
-use Rattle.std.proofs.Common.{◌≡◌, ℕ, zero, suc, ◌+◌, ◌-◌, ◌*◌, ◌/◌, ◌<◌, ◌≤◌, ⊎_elim, Bool, true, false, cond, not, nat_eq, nat_lt, List, [], ◌∷◌, length, get_or, Some, Result, Ok, Err, refl, sym, ap, ◌∙◌, subst, arith, true≢false}
+use Rattle.std.proofs.Common.{◌≡◌, ℕ, zero, suc, ◌+◌, ◌-◌, ◌*◌, ◌<◌, ◌≤◌, ⊎_elim, Bool, true, false, cond, not, nat_eq, List, [], ◌∷◌, length, get_or, Result, Ok, Err, refl, sym, ap, ◌∙◌, arith, true≢false}
 use Rattle.std.specs.Global.{Vec}
 use Rattle.std.specs.List.{filter, range_with_len}
-use Rattle.std.proofs.lemmas.Bool.{cases_eq, cases_lt, eqb-true, eq-eqb, ne_eqb, le-ltb, lt-ltb}
+use Rattle.std.proofs.lemmas.Bool.{cases_eq, cases_lt, eq-eqb, ne_eqb, le-ltb, lt-ltb}
 use Rattle.std.proofs.lemmas.List.{get_or_default}
 use Rattle.pami_algebra.specs.Fraction.{Fraction}
 use Rattle.pami_frac.specs.Answers.{FollowsBy}
@@ -22,23 +22,21 @@ use Rattle.pami_theory.specs.Step as theory
 use Rattle.pami_theory.specs.Step.{leaving_at, stand_after, basis_after, stand_on, flipped, is_among}
 use Rattle.pami_theory.specs.Weights.{lesser}
 use Rattle.pami_theory.specs.declared.words.Side.{Side}
-use Rattle.pami_theory.specs.declared.words.Side.TheVariants.{Above, Below}
 use Rattle.pami_theory.specs.declared.words.Stand.{Stand}
 use Rattle.pami_theory.specs.declared.words.Stand.TheVariants.{Basic, Lower, Upper, Zero}
-use Rattle.pami_theory.proofs.Tables.{tabled_at, tabled_length}
+use Rattle.pami_theory.proofs.Tables.{tabled_at}
 use Rattle.pami_theory.proofs.NextCosts.{step_reduced}
 use Rattle.pami_method.specs.Batch as batch
 use Rattle.pami_method.specs.Batch.{Reached}
-use Rattle.pami_method.specs.Scripts.{is_nonbasic, nonbasic_in, slice_variables, shift_script}
+use Rattle.pami_method.specs.Scripts.{is_nonbasic, nonbasic_in, slice_variables}
 use Rattle.pami_price.proofs.Rows.{kept_value}
 use Rattle.pami_price.specs.Slices.{slices}
-use Rattle.pami_deferral.proofs.Chains.{Links, pivot_links, next_fresh, next_basis}
-use Rattle.pami_deferral.proofs.Pivots.{step_place, step_side}
+use Rattle.pami_deferral.proofs.Chains.{pivot_links, next_fresh, next_basis}
 use Rattle.pami_vec.specs.declared.step.Step.{Step}
 use Rattle.pami_minor.specs.declared.minor.Minor.{Minor}
 use Rattle.pami_minor.specs.Costs.{costs, has_cost}
 use Rattle.pami_minor.specs.Shift.{shift_by}
-use Rattle.pami_minor.specs.Shifts.{is_shifted, AreCosts, FollowsShift}
+use Rattle.pami_minor.specs.Shifts.{is_shifted, FollowsShift}
 use Rattle.pami_minor.specs.Steps.{IsStepOf}
 use Rattle.pami_minor.specs.Fresh.{IsStepping}
 use Rattle.pami_minor.proofs.Shifting.{IsShiftOf, shifting, answered, refused}

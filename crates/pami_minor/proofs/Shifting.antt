@@ -1,20 +1,13 @@
 -- A slice of the reduced costs behind a step: what is worked out is what is solved at the next basis.
-use Rattle.std.proofs.Common.{◌≡◌, ℕ, zero, suc, ◌+◌, ◌-◌, ◌*◌, ◌<◌, ◌≤◌, ⊎_elim, Bool, true, false, cond, not, nat_eq, nat_lt, List, [], ◌∷◌, ◌++◌, length, get_or, Some, Result, Ok, Err, refl, sym, ap, ◌∙◌, subst, arith, true≢false}
-use Rattle.std.specs.Global.{Vec}
+use Rattle.std.proofs.Common.{◌≡◌, ℕ, zero, suc, ◌+◌, ◌-◌, ◌<◌, ◌≤◌, Bool, true, false, cond, nat_eq, List, [], ◌∷◌, ◌++◌, Result, Ok, Err, refl, sym, ap, ◌∙◌, subst, arith, true≢false}
 use Rattle.std.specs.List.{filter, range_with_len}
-use Rattle.std.proofs.lemmas.Bool.{cases_lt, eqb-true, eq-eqb, ne_eqb, lt-ltb, le-ltb}
-use Rattle.std.proofs.lemmas.List.{append_assoc, get_or_default}
+use Rattle.std.proofs.lemmas.List.{append_assoc}
 use Rattle.pami_algebra.specs.Fraction.{Fraction}
-use Rattle.pami_algebra.specs.Operations.{◌-ᶠ◌, ◌*ᶠ◌}
-use Rattle.pami_frac.specs.Answers.{FollowsBy}
 use Rattle.pami_frac.specs.declared.arithmetic.Refused.{Refused}
-use Rattle.pami_frac.specs.declared.fault.Fault.{Fault}
-use Rattle.pami_frac.specs.declared.fault.Fault.TheVariants as faults
 use Rattle.pami_frac.specs.declared.list.Entry.{Entry}
-use Rattle.pami_linear.specs.Lists.{get}
 use Rattle.pami_script.specs.Script.{then, each_member, sub_product}
 use Rattle.pami_script.specs.Dense.{at}
-use Rattle.pami_script.proofs.Scripts.{then_ok, then_go, then_stop}
+use Rattle.pami_script.proofs.Scripts.{then_go, then_stop}
 use Rattle.pami_theory.specs.Ratio.{toward}
 use Rattle.pami_theory.specs.declared.words.Side.{Side}
 use Rattle.pami_vec.specs.declared.step.Step.{Step}

@@ -1,6 +1,6 @@
 -- A step that is taken in: behind it the stands and the head are those of the next basis, and all else is still as before.
-use Rattle.std.proofs.Common.{◌≡◌, ℕ, zero, suc, ◌+◌, ◌*◌, ◌<◌, ◌≤◌, ⊎_elim, Bool, true, false, cond, not, nat_eq, nat_lt, List, [], ◌∷◌, ◌++◌, length, get_or, set, take, drop, map, Option, None, Some, Result, Ok, refl, sym, ap, ◌∙◌, subst, arith, vec_len, vec_capacity}
-use Rattle.std.specs.List.{All, filter, range_with_len}
+use Rattle.std.proofs.Common.{◌≡◌, ℕ, ◌*◌, ◌<◌, ⊎_elim, cond, not, nat_eq, List, [], length, get_or, set, Option, None, Some, Ok, refl, sym, ap, ◌∙◌, subst, arith, vec_capacity}
+use Rattle.std.specs.List.{All, filter}
 use Rattle.std.proofs.lemmas.Option.{none-some, same_Some}
 use Rattle.std.proofs.lemmas.Bool.{cases_eq, eq-eqb, ne_eqb, le-ltb}
 use Rattle.std.proofs.lemmas.List.{length-set, get_or-set_same, get_or-set_other, ext_get_or}

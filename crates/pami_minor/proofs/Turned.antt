@@ -1,11 +1,11 @@
 -- Flips that are turned one after the other: each variable that is among them has its other bound, where they are distinct.
-use Rattle.std.proofs.Common.{◌≡◌, ℕ, zero, suc, ◌+◌, ◌<◌, ◌≤◌, ⊎_elim, Bool, true, false, cond, ◌||◌, nat_eq, List, [], ◌∷◌, length, get_or, set, drop, refl, sym, ap, ◌∙◌, subst, arith, true≢false}
+use Rattle.std.proofs.Common.{◌≡◌, ℕ, ◌+◌, ◌<◌, ◌≤◌, ⊎_elim, false, cond, ◌||◌, List, [], ◌∷◌, length, get_or, set, drop, refl, sym, ap, ◌∙◌, subst}
 use Rattle.std.specs.List.{All}
 use Rattle.std.proofs.lemmas.Bool.{cases_eq, eq-eqb, ne_eqb}
 use Rattle.std.proofs.lemmas.List.{drop_more, drop_all, get_or_default, get_or-set_same, get_or-set_other, length-set}
 use Rattle.std.proofs.lemmas.List.Elements.{All-head, All-tail}
 use Rattle.pami_theory.specs.declared.words.Stand.{Stand}
-use Rattle.pami_theory.specs.declared.words.Stand.TheVariants.{Basic, Zero}
+use Rattle.pami_theory.specs.declared.words.Stand.TheVariants.{Zero}
 use Rattle.pami_theory.specs.Step.{flipped, is_among}
 use Rattle.pami_minor.specs.Turned.{all_turned}
 

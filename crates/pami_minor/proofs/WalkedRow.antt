@@ -1,8 +1,6 @@
 -- A walk whose lists are solved at a basis: it follows the scripts of the walk and of the step there.
-use Rattle.std.proofs.Common.{◌≡◌, ℕ, ◌+◌, ◌<◌, ◌^◌, ◌⊎◌, inl, inr, List, length, map, get_or, Option, None, Some, Result, Ok, Err, refl, sym, ap, ◌∙◌, subst, arith, Bool, true, false, cond, true≢false}
-use Rattle.std.specs.List.{filter, range_with_len}
+use Rattle.std.proofs.Common.{◌≡◌, ℕ, ◌+◌, ◌<◌, ◌⊎◌, inl, inr, List, length, get_or, Option, None, Some, Result, Ok, Err, refl, sym, ap, ◌∙◌, subst, arith, Bool, true, false, cond, true≢false}
 use Rattle.std.specs.Option.{option_map}
-use Rattle.std.proofs.lemmas.Option.{none-some}
 use Rattle.std.proofs.lemmas.List.{get_or-map, get_or_default, length-replicate}
 use Rattle.pami_algebra.specs.Fraction.{Fraction}
 use Rattle.pami_frac.specs.Answers.{FollowsBy}
@@ -31,12 +29,10 @@ use Rattle.pami_method.specs.Scripts.{ratio_script, step_script, flips_script, a
 use Rattle.pami_method.proofs.Flips.{step_value}
 use Rattle.pami_form.specs.Form.{KeepsForm}
 use Rattle.pami_form.specs.declared.form.Form.{Form}
-use Rattle.pami_state.specs.Columns.{column_of}
 use Rattle.pami_state.proofs.Formed.{variables_are, coefficient_is}
 use Rattle.pami_price.specs.Agreement.{nonzero_entries, all_nonbasic}
 use Rattle.pami_price.proofs.Rows.{kept_rise, kept_value}
 use Rattle.pami_bfrt.specs.Agreement.{IsTable, AreRowEntries}
-use Rattle.pami_bfrt.specs.Walks.{walk_script, found_by}
 use Rattle.pami_bfrt.specs.declared.walk.Walk.{Walk}
 use Rattle.pami_bfrt.proofs.Ended.{walk_is}
 use Rattle.pami_vec.specs.declared.step.Step.{Step}
@@ -44,7 +40,7 @@ use Rattle.pami_minor.specs.declared.walk.Leaving as program
 use Rattle.pami_theory.proofs.Candidates.{entered_by_walk}
 use Rattle.pami_theory.proofs.Places.{nonbasic_standing}
 use Rattle.pami_minor.specs.Flips.{flip_at, flips_by, ascending_to, length_by}
-use Rattle.pami_minor.specs.Walked.{Moved, Walked, table_of, bound_of, move_by, step_with, step_behind, walk_by, walked}
+use Rattle.pami_minor.specs.Walked.{Moved, Walked, table_of, bound_of, step_with, step_behind, walk_by, walked}
 use Rattle.pami_minor.specs.Steps.{form_of, IsStepOf, IsStepFor, AreWalked, FollowsWalk}
 use Rattle.pami_minor.proofs.StepScripts.{flips_tied, rows_length, rows_value, step_is_length}
 

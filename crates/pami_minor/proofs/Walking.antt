@@ -1,12 +1,11 @@
 -- A Minor that walks: what is kept of the row that was picked, and of its slices, is what the walk is given.
-use Rattle.std.proofs.Common.{◌≡◌, ℕ, ◌<◌, List, length, get_or, Option, None, Some, Result, refl, sym, ap, ◌∙◌, subst, arith}
+use Rattle.std.proofs.Common.{◌≡◌, ℕ, ◌<◌, List, length, get_or, Option, Some, Result, sym, ap, ◌∙◌, subst, arith}
 use Rattle.std.proofs.lemmas.Option.{same_Some}
 use Rattle.std.proofs.lemmas.List.{get_or_default}
 use Rattle.pami_algebra.specs.Fraction.{Fraction}
 use Rattle.pami_frac.specs.declared.arithmetic.Refused.{Refused}
 use Rattle.pami_frac.specs.declared.fault.Fault.{Fault}
 use Rattle.pami_frac.specs.declared.list.Entry.{Entry}
-use Rattle.pami_script.specs.Dense.{Rising}
 use Rattle.pami_theory.specs.Form.{Form, variables}
 use Rattle.pami_theory.specs.Basis.{head_at}
 use Rattle.pami_theory.specs.Fresh.{row_at, value_at_place}
@@ -14,16 +13,14 @@ use Rattle.pami_theory.specs.declared.words.Stand.{Stand}
 use Rattle.pami_theory.specs.declared.words.Violation.{Violation}
 use Rattle.pami_theory.specs.Ratio.{row_entry}
 use Rattle.pami_theory.specs.Choice.{InfeasibleRow}
-use Rattle.pami_theory.proofs.Members.{Has, contains_from, filter_has}
-use Rattle.pami_method.specs.Batch.{Reached, is_attractive, staying}
-use Rattle.pami_method.specs.Scripts.{is_nonbasic}
+use Rattle.pami_theory.proofs.Members.{contains_from, filter_has}
+use Rattle.pami_method.specs.Batch.{Reached, is_attractive}
 use Rattle.pami_price.specs.Agreement.{nonzero_entries, all_nonbasic}
 use Rattle.pami_price.specs.Slices.{slices}
 use Rattle.pami_bfrt.specs.declared.walk.Walk.{Walk}
 use Rattle.pami_vec.specs.declared.step.Step.{Step}
 use Rattle.pami_minor.specs.declared.kept.Picked.{Picked}
 use Rattle.pami_minor.specs.declared.minor.Minor.{Minor}
-use Rattle.pami_minor.specs.declared.walk.Leaving.{Leaving}
 use Rattle.pami_minor.specs.Joined.{joined}
 use Rattle.pami_minor.specs.Steps.{AreWalked, FollowsWalk}
 use Rattle.pami_minor.specs.Fresh.{IsPickedRow, IsPricing}

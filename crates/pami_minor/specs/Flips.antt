@@ -1,6 +1,6 @@
 -- What the flips of a step change, and its primal length, over a program's lists. Columns go by variable and then by row,
 -- stands and widths by variable.
-use Rattle.std.specs.Prelude.{ℕ, List, [], ◌∷◌, length, Option, None, Result, Ok, slice_index_or}
+use Rattle.std.specs.Prelude.{ℕ, List, [], ◌∷◌, Option, None, Result, Ok, slice_index_or}
 use Rattle.std.specs.List.{filter, range_with_len}
 use Rattle.pami_algebra.specs.Fraction.{Fraction}
 use Rattle.pami_linear.specs.Lists.{get}

@@ -1,5 +1,5 @@
 -- What a Minor keeps is what is solved afresh at the basis that its batch has reached.
-use Rattle.std.specs.Prelude.{◌≡◌, ℕ, suc, ◌+◌, ◌*◌, ◌<◌, ◌≤◌, ◌^◌, false, not, List, [], ◌∷◌, ◌++◌, length, take, drop, Option, None, Some, nat_eq, nat_lt, cond, slice_index_or, vec_len, vec_capacity}
+use Rattle.std.specs.Prelude.{◌≡◌, ℕ, suc, ◌+◌, ◌*◌, ◌<◌, ◌≤◌, ◌^◌, false, not, List, [], ◌∷◌, ◌++◌, length, take, drop, Some, nat_eq, nat_lt, cond, slice_index_or, vec_len, vec_capacity}
 use Rattle.std.specs.List.{filter, filter_map}
 use Rattle.pami_linear.specs.Lists.{get}
 use Rattle.pami_theory.specs.Form.{Form, variables, limits}

@@ -1,12 +1,11 @@
 -- Rows that remain, as they are read before each row: how each is now, and which is picked.
-use Rattle.std.specs.Prelude.{ℕ, ◌-◌, List, [], ◌∷◌, map, Option, None, Some, Result, Ok, cond}
+use Rattle.std.specs.Prelude.{List, Option, None, Some, Result, Ok, cond}
 use Rattle.std.specs.Option.{option_map}
 use Rattle.pami_frac.specs.declared.arithmetic.Refused.{Refused}
 use Rattle.pami_script.specs.Script.{then, each_member}
 use Rattle.pami_theory.specs.declared.words.Violation.{Violation}
 use Rattle.pami_theory.specs.Choice.{InfeasibleRow, merit, is_chosen_before}
 use Rattle.pami_method.specs.Scripts.{violation_script}
-use Rattle.pami_deferral.specs.Inside.{keeps}
 use Rattle.pami_minor.specs.declared.row.Remaining.{Remaining}
 use Rattle.pami_minor.specs.declared.row.RowNow.{RowNow}
 

@@ -1,6 +1,5 @@
 -- The reduced costs of a slice behind a step, over a program's entries: one for each nonbasic variable.
-use Rattle.std.specs.Prelude.{ℕ, List, [], ◌∷◌, Result, Ok, cond, nat_eq}
-use Rattle.pami_algebra.specs.Fraction.{Fraction}
+use Rattle.std.specs.Prelude.{List, [], ◌∷◌, Result, Ok, cond, nat_eq}
 use Rattle.pami_frac.specs.declared.arithmetic.Refused.{Refused}
 use Rattle.pami_frac.specs.declared.list.Entry.{Entry}
 use Rattle.pami_script.specs.Script.{then, sub_product}

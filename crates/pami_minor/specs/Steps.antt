@@ -13,7 +13,7 @@ use Rattle.pami_theory.specs.Fresh.{Fresh, IsFresh, row_at, value_at_place}
 use Rattle.pami_theory.specs.declared.words.Stand.{Stand}
 use Rattle.pami_theory.specs.declared.words.Violation.{Violation}
 use Rattle.pami_theory.specs.Violation.{passed_bound}
-use Rattle.pami_theory.specs.Ratio.{Entering, row_entry, ratio_walk}
+use Rattle.pami_theory.specs.Ratio.{row_entry, ratio_walk}
 use Rattle.pami_theory.specs.Step as theory_step
 use Rattle.pami_theory.specs.Step.{leaving_at, step_at, flips_change, theta}
 use Rattle.pami_method.specs.Scripts.{ratio_script, step_script}

@@ -1,5 +1,4 @@
-use Rattle.std.proofs.Common.{◌≡◌, ◌<◌, ◌≤◌, length, refl, ap, ◌∙◌, arith}
-use Rattle.pami_state.specs.Columns.{rows_of}
+use Rattle.std.proofs.Common.{length, refl, ap, ◌∙◌, arith}
 use Rattle.pami_minor.proofs.Sizes.{changes_length}
 use Rattle.pami_minor.proofs.flips.flip_column.Goals as goal
 

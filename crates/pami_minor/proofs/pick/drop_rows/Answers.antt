@@ -1,4 +1,4 @@
-use Rattle.std.proofs.Common.{◌≡◌, ◌<◌, ◌≤◌, ◌-◌, suc, length, sym, ap, ◌∙◌, arith, vec_len}
+use Rattle.std.proofs.Common.{◌-◌, sym, ◌∙◌, arith}
 use Rattle.pami_minor.proofs.Picks.{drop_one}
 use Rattle.pami_minor.proofs.pick.drop_rows.Goals as goal
 

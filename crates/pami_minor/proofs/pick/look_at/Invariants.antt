@@ -1,4 +1,4 @@
-use Rattle.std.proofs.Common.{◌≡◌, ◌++◌, List, Option, length, map, drop, Ok, vec_len, vec_capacity}
+use Rattle.std.proofs.Common.{◌≡◌, ◌++◌, List, Option, map, drop, Ok, vec_len, vec_capacity}
 use Rattle.pami_script.specs.Script.{then, each_member}
 use Rattle.pami_minor.specs.declared.row.RowNow.{RowNow}
 use Rattle.pami_minor.specs.Rows.{look_by, looks_by}

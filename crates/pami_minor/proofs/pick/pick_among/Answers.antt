@@ -1,4 +1,4 @@
-use Rattle.std.proofs.Common.{◌≡◌, ℕ, List, map, length, Result, Option, Ok, Err, sym, ap, ◌∙◌, subst}
+use Rattle.std.proofs.Common.{List, map, length, Result, Option, Err, sym, ap, ◌∙◌, subst}
 use Rattle.std.proofs.lemmas.Result.{err_from_is_err_and}
 use Rattle.pami_frac.specs.declared.arithmetic.Refused.{Refused}
 use Rattle.pami_minor.specs.declared.kept.Kept.{Kept}

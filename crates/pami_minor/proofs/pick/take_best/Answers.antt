@@ -1,4 +1,4 @@
-use Rattle.std.proofs.Common.{◌≡◌, Option, Some, refl, sym, ap, ◌∙◌, subst}
+use Rattle.std.proofs.Common.{Option, Some, refl, sym, subst}
 use Rattle.pami_minor.specs.declared.row.RowNow.{RowNow}
 use Rattle.pami_minor.specs.Picks.{TakesBest}
 use Rattle.pami_minor.proofs.pick.take_best.Goals as goal

@@ -1,4 +1,4 @@
-use Rattle.std.proofs.Common.{◌≡◌, ◌+◌, ◌++◌, drop, List, sym, ap, ◌∙◌}
+use Rattle.std.proofs.Common.{◌+◌, ◌++◌, drop, List, sym, ap, ◌∙◌}
 use Rattle.pami_frac.specs.declared.list.Entry.{Entry}
 use Rattle.pami_minor.specs.Joined.{joined}
 use Rattle.pami_minor.proofs.Slices.{join_more, join_ends}

@@ -1,4 +1,4 @@
-use Rattle.std.proofs.Common.{◌≡◌, ◌<◌, length, get_or, set, subst, sym, ap, ◌∙◌}
+use Rattle.std.proofs.Common.{◌<◌, get_or, subst, sym, ◌∙◌}
 use Rattle.std.proofs.lemmas.List.{length-set}
 use Rattle.pami_minor.proofs.Turned.{turned_more, turned_ends}
 use Rattle.pami_minor.proofs.turns.turn_stands.Goals as goal

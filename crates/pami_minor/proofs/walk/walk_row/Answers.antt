@@ -1,9 +1,9 @@
-use Rattle.std.proofs.Common.{◌≡◌, ◌<◌, ℕ, List, length, Some, Ok, sym, ap, ◌∙◌, subst}
+use Rattle.std.proofs.Common.{◌<◌, ℕ, List, length, Ok, sym, ap, ◌∙◌, subst}
 use Rattle.std.specs.List.{All}
 use Rattle.pami_frac.proofs.Outcomes.{not_zero_by_test}
 use Rattle.pami_bfrt.specs.Walks.{found_by}
 use Rattle.pami_bfrt.specs.declared.walk.Walk.{Walk}
-use Rattle.pami_bfrt.proofs.Entrants.{IsSoundEntering, walk_sound}
+use Rattle.pami_bfrt.proofs.Entrants.{walk_sound}
 use Rattle.pami_minor.proofs.walk.walk_row.Goals as goal
 use Rattle.pami_frac.specs.Signs.{is_zero}
 

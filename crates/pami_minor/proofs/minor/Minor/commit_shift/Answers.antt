@@ -1,6 +1,5 @@
-use Rattle.std.proofs.Common.{◌≡◌, ◌<◌, ◌+◌, ◌++◌, List, length, take, drop, sym, ap, ◌∙◌, subst, arith}
+use Rattle.std.proofs.Common.{◌≡◌, ◌<◌, ◌++◌, List, length, take, drop, sym, ap, ◌∙◌, subst, arith}
 use Rattle.std.specs.List.{All}
-use Rattle.pami_algebra.specs.Fraction.{Fraction}
 use Rattle.pami_algebra.specs.Operations.{neg_f}
 use Rattle.pami_frac.specs.declared.list.Entry.{Entry}
 use Rattle.pami_theory.specs.Form.{zero_f}

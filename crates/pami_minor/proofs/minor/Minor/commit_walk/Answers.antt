@@ -1,4 +1,4 @@
-use Rattle.std.proofs.Common.{◌≡◌, ◌<◌, ℕ, List, Option, Some, length, sym, ap, ◌∙◌, subst}
+use Rattle.std.proofs.Common.{◌<◌, ℕ, List, Option, length, sym, subst}
 use Rattle.std.specs.List.{All}
 use Rattle.pami_theory.specs.Step.{step_at}
 use Rattle.pami_vec.specs.declared.step.Step.{Step}

@@ -1,4 +1,4 @@
-use Rattle.std.proofs.Common.{◌≡◌, ◌<◌, ◌≤◌, length, Option, Ok, refl, sym, ap, ◌∙◌, subst, arith, vec_len, vec_capacity}
+use Rattle.std.proofs.Common.{length, Option, Ok, refl, ap, ◌∙◌, subst, arith}
 use Rattle.pami_minor.specs.declared.kept.Picked.{Picked}
 use Rattle.pami_minor.specs.Follow.{FollowsAmong}
 use Rattle.pami_minor.proofs.Among.{fresh_length}

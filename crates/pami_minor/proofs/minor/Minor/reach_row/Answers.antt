@@ -1,8 +1,7 @@
-use Rattle.std.proofs.Common.{◌≡◌, ◌<◌, ℕ, List, length, get_or, sym, ap, ◌∙◌, subst, arith}
-use Rattle.std.proofs.lemmas.List.{get_or_default}
+use Rattle.std.proofs.Common.{List, length, sym, ap, ◌∙◌, subst, arith}
 use Rattle.pami_frac.specs.Signs.{is_zero}
 use Rattle.pami_frac.proofs.Outcomes.{not_zero_by_test}
-use Rattle.pami_state.specs.Columns.{rows_of, column_of}
+use Rattle.pami_state.specs.Columns.{column_of}
 use Rattle.pami_state.proofs.Formed.{variables_are, coefficient_is}
 use Rattle.pami_theory.specs.Form.{coefficient}
 use Rattle.pami_theory.proofs.Members.{has_from}
@@ -12,8 +11,7 @@ use Rattle.pami_minor.specs.declared.kept.Picked.{Picked}
 use Rattle.pami_minor.specs.Fresh.{IsPickedRow}
 use Rattle.pami_minor.specs.Picks.{HasRowAt}
 use Rattle.pami_minor.specs.Steps.{form_of}
-use Rattle.pami_minor.specs.Behind.{IsFirstAt}
-use Rattle.pami_minor.proofs.Nth.{nth_row, has_nth, first_is, kept_at, row_low, pivot_low}
+use Rattle.pami_minor.proofs.Nth.{nth_row, has_nth, kept_at, row_low, pivot_low}
 use Rattle.pami_minor.proofs.ReachReady.{step_here, entering_low, slice_low, pivot_here, pivot_nonzero}
 use Rattle.pami_minor.proofs.Reaching.{reach_follows}
 use Rattle.pami_minor.proofs.minor.Minor.reach_row.Goals as goal

@@ -1,6 +1,5 @@
-use Rattle.std.proofs.Common.{◌≡◌, ◌<◌, ◌+◌, List, [], length, get_or, sym, ap, ◌∙◌, subst, arith}
+use Rattle.std.proofs.Common.{◌<◌, [], length, sym, ap, ◌∙◌, subst, arith}
 use Rattle.std.proofs.lemmas.List.{get_or_default}
-use Rattle.pami_frac.specs.declared.list.Entry.{Entry}
 use Rattle.pami_linear.specs.Lists.{get}
 use Rattle.pami_theory.specs.declared.words.Violation.{Violation}
 use Rattle.pami_method.specs.Scripts.{slice_variables}

@@ -1,4 +1,4 @@
-use Rattle.std.proofs.Common.{◌≡◌, ◌<◌, ap, ◌∙◌, arith}
+use Rattle.std.proofs.Common.{ap, ◌∙◌, arith}
 use Rattle.pami_minor.specs.Joined.{joined}
 use Rattle.pami_minor.specs.Steps.{form_of}
 use Rattle.pami_minor.proofs.Walking.{kept_low, walked_lists, walked_at}
