@@ -13,8 +13,10 @@ pub mod Turned
 pub mod Once
 pub mod Stepping
 pub mod Nth
+pub mod OpeningRows
 pub mod Reaching
 pub mod ReachReady
+pub mod Opens
 pub mod RowsBehind
 pub mod Shifting
 pub mod ShiftFollows

@@ -27,7 +27,7 @@ nth_by f n r (k ∷ ks) (y ∷ ys) (suc i) x h a l e =
     let s = nth_by f n r ks ys i x h.1 a (omega arith) e in
     (s.0, (let m = s.1 in omega arith), s.2, s.3)
 
-before_by : (f : Form) (n : Reached) (ks : List Kept) (xs : List InfeasibleRow) (i : ℕ) (x : InfeasibleRow) (j : ℕ) (d : Kept)
+pub before_by : (f : Form) (n : Reached) (ks : List Kept) (xs : List InfeasibleRow) (i : ℕ) (x : InfeasibleRow) (j : ℕ) (d : Kept)
     → AreFreshRows f n (take i ks) (take i xs) → AreApart xs → i < length xs → get_or xs i x ≡ x → j < i → ¬ ((get_or ks j d).at.place ≡ x.place)
 before_by f n ks [] i x j d h a l e m = absurd (omega arith)
 before_by f n ks (y ∷ ys) zero x j d h a l e m = absurd (omega arith)

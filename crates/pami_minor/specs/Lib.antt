@@ -12,3 +12,4 @@ pub mod Follow
 pub mod Behind
 pub mod Costs
 pub mod Shifts
+pub mod Opening

@@ -22,7 +22,7 @@ use pami_vec::{Step, entry_at};
 use std::alloc::Global;
 
 /// The index of the row of a place.
-fn index_of(rows: &[Kept], place: u32) -> usize
+pub(crate) fn index_of(rows: &[Kept], place: u32) -> usize
     requires { HasRowAt place rows.now }
     ensures { IsFirstAt place rows.now result }
 {

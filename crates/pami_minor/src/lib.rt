@@ -12,6 +12,7 @@ mod kept;
 mod lent;
 mod minor;
 pub mod minor_laws;
+mod opening;
 mod pick;
 mod reach;
 mod row;

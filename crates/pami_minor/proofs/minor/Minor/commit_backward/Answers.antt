@@ -1,0 +1,31 @@
+use Rattle.std.proofs.Common.{List, refl, sym, subst}
+use Rattle.pami_minor.specs.declared.kept.Kept.{Kept}
+use Rattle.pami_minor.specs.Picks.{HasRowAt}
+use Rattle.pami_minor.proofs.Opens.{has_known, known_more}
+use Rattle.pami_minor.proofs.minor.Minor.commit_backward.Goals as goal
+
+pub index_of-i-requires : goal.index_of-i-requires
+index_of-i-requires c =
+    let t = c.requires.turn in
+    subst (λ (ks : List Kept). HasRowAt c.args.place ks) (sym c.as_slice.ensures.value)
+    (has_known t.0 t.1 t.2 t.3 c.args.place c.args.self.now t.4 t.5)
+
+pub returns : goal.returns
+returns c = record {
+  opening = λ f limit r n h o w.
+      known_more f limit r n c.args.place c.args.self.now _ c.as_slice.result.now c.index_of-i.result c.index_mut.result.now c.args.rho h o w
+      c.as_slice.ensures.value c.index_of-i.ensures c.index_mut.ensures.value
+      (record {
+        head = refl;
+        stands = refl;
+        reduced = refl;
+        count = refl;
+        limit = refl;
+        alpha = refl;
+        steps = refl;
+        nows = refl;
+        dropped = refl;
+        remaining = refl;
+      })
+      refl;
+}
