@@ -37,7 +37,8 @@ impl Minor {
     /// The step that was committed last.
     pub(crate) fn last_step(&self) -> &Step
         requires { (earlier : List TheStep) × (last : TheStep) × (self.now.steps.items ≡ earlier ++ last ∷ []) }
-        ensures { (earlier : List TheStep) (last : TheStep) → self.now.steps.items ≡ earlier ++ last ∷ [] → result.now ≡ last }
+        ensures { (earlier : List TheStep) (last : TheStep) → self.now.steps.items ≡ earlier ++ last ∷ []
+            → result.now ≡ last }
     {
         &self.steps[self.steps.len() - 1]
     }
@@ -100,7 +101,8 @@ impl Minor {
             × IsStepping f limit m next i j self.old × IsRowOf next i reached.place }
         // One row more is that of the basis behind the step, where this is its row.
         ensures reached { (f : TheForm) (limit : ℕ) (m : TheMinor) (next : TheReached) (i j : ℕ)
-            → IsStepping f limit m next i j self.old → IsRowOf next i reached.place → IsReachedRow next reached.place reached
+            → IsStepping f limit m next i j self.old → IsRowOf next i reached.place
+            → IsReachedRow next reached.place reached
             → IsStepping f limit m next (i + 1) j self.new }
     {
         let i = index_of(self.rows.as_slice(), reached.place);

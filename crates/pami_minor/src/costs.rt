@@ -55,7 +55,8 @@ fn slice_costs(
     requires same { length stands.now ≡ length reduced.now }
     requires few { length reduced.now < 2 ^ 32 }
     requires exists { 64 * slice < length reduced.now }
-    ensures { IfOk result (λ es. es.items ≡ costs (the_has_cost stands.now leaving) (get reduced.now) (slice_variables (length reduced.now) slice)) }
+    ensures { IfOk result (λ es. es.items
+        ≡ costs (the_has_cost stands.now leaving) (get reduced.now) (slice_variables (length reduced.now) slice)) }
 {
     let first = 64 * slice;
     let last = first + slice_size(reduced.len(), slice);
@@ -127,7 +128,8 @@ impl Minor {
     /// one the step length on its side. It takes no memory.
     pub fn commit_shift(&mut self, slice: u32, reduced: Vec<Entry>)
         requires turn { (f : TheForm) × (limit : ℕ) × (m : TheMinor) × (next : TheReached) × (i : ℕ)
-            × IsStepping f limit m next i slice self.old × (slice < slices (variables f)) × AreCosts f m next slice reduced.items }
+            × IsStepping f limit m next i slice self.old × (slice < slices (variables f))
+            × AreCosts f m next slice reduced.items }
         // One slice more is that of the basis behind the step, where these are its costs.
         ensures shifted { (f : TheForm) (limit : ℕ) (m : TheMinor) (next : TheReached) (i : ℕ)
             → IsStepping f limit m next i slice self.old → AreCosts f m next slice reduced.items

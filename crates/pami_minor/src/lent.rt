@@ -41,7 +41,8 @@ impl Minor {
 
     /// The head, the stands and the reduced costs that the batch leaves, when it has stopped. It takes no memory.
     pub fn end(self) -> BatchEnd
-        ensures lists { (result.head ≡ self.head.items) × (result.stands ≡ self.stands.items) × (result.reduced ≡ self.reduced.items) }
+        ensures lists { (result.head ≡ self.head.items) × (result.stands ≡ self.stands.items)
+            × (result.reduced ≡ self.reduced.items) }
         // They are those of the last basis of the batch.
         ensures fresh { (f : TheForm) (r : TheReached) → IsStopped f r self
             → (result.head ≡ r.basis.head) × (result.stands ≡ r.basis.stands) × (result.reduced ≡ r.fresh.reduced) }

@@ -44,7 +44,8 @@ impl Minor {
     pub fn next_row(&mut self) -> Result<RowPick, Refused>
         requires turn { (f : TheForm) × (limit : ℕ) × (r : TheReached) × IsFreshMinor f limit r self.old }
         // At what the batch has reached, it is the definition's row and its drops, or its stop.
-        ensures pick { (f : TheForm) (limit : ℕ) (r : TheReached) → IsFreshMinor f limit r self.old → FollowsPick f limit r self.new result }
+        ensures pick { (f : TheForm) (limit : ℕ) (r : TheReached) → IsFreshMinor f limit r self.old
+            → FollowsPick f limit r self.new result }
     {
         self.dropped.clear();
         if self.count == self.limit {

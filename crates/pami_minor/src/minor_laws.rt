@@ -11,7 +11,8 @@ ghost use Rattle.pami_minor.specs.Opening.{IsOpening};
 /// When the rows of the inverse of all chosen places are taken in, each row, all stands and all reduced costs are those of
 /// the basis at which the batch begins.
 pub fn opened_minors_are_fresh()
-    ensures fresh { (f : Form) (limit : ℕ) (r : Reached) (minor : Program) → IsOpening f limit r (length r.rows) minor → IsFreshMinor f limit r minor }
+    ensures fresh { (f : Form) (limit : ℕ) (r : Reached) (minor : Program)
+        → IsOpening f limit r (length r.rows) minor → IsFreshMinor f limit r minor }
 {}
 
 /// Behind a step, when all rows that remain and all slices are taken in, each remaining row, all stands and all reduced

@@ -106,9 +106,11 @@ impl Minor {
     ) -> Result<Minor, OutOfMemory>
         requires openable { IsOpenable form.now state.now chosen.now steps_left }
         // All but the rows of the inverse is that of the state's basis.
-        ensures opening { IfOk result (λ minor. (s : Fresh) (most : ℕ) → IsFresh (form_of form.now) (basis_of state.now) s
+        ensures opening { IfOk result (λ minor. (s : Fresh) (most : ℕ)
+            → IsFresh (form_of form.now) (basis_of state.now) s
             → chosen.now ≡ map chosen_row (the_chosen (form_of form.now) (basis_of state.now) s state.now.weights most)
-            → IsOpening (form_of form.now) (state.now.pivots + steps_left) (first_reached form.now state.now s most) 0 minor) }
+            → IsOpening (form_of form.now) (state.now.pivots + steps_left)
+            (first_reached form.now state.now s most) 0 minor) }
     {
         let many = chosen.len();
         let rows = open_rows(alloc, form, state, chosen)?;
@@ -138,9 +140,11 @@ impl Minor {
 
     /// Takes in the row of the next chosen place, which goes by row. It takes no memory.
     pub fn commit_backward(&mut self, place: u32, rho: SpVec)
-        requires turn { (f : TheForm) × (limit : ℕ) × (r : TheReached) × (n : ℕ) × IsOpening f limit r n self.old × IsRowOf r n place }
+        requires turn { (f : TheForm) × (limit : ℕ) × (r : TheReached) × (n : ℕ)
+            × IsOpening f limit r n self.old × IsRowOf r n place }
         // One row more is known, where this is the row of the inverse.
-        ensures opening { (f : TheForm) (limit : ℕ) (r : TheReached) (n : ℕ) → IsOpening f limit r n self.old → IsRowOf r n place
+        ensures opening { (f : TheForm) (limit : ℕ) (r : TheReached) (n : ℕ)
+            → IsOpening f limit r n self.old → IsRowOf r n place
             → rho ≡ row_at r.fresh place → IsOpening f limit r (n + 1) self.new }
     {
         let i = index_of(self.rows.as_slice(), place);

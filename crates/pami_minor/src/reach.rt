@@ -34,7 +34,8 @@ pub fn reach_at(
     requires flips { length step.now.flip_column ≡ form.now.rows }
     requires pivot_row { length rho_p.now ≡ form.now.rows }
     requires nonzero { is_zero alpha_pq.now ≡ false }
-    ensures script { FollowsBy (λ r. r) (reach_by (column_of form.now.columns step.now.entering) step.now alpha_pq.now rho_p.now weight_p row.now) result }
+    ensures script { FollowsBy (λ r. r)
+        (reach_by (column_of form.now.columns step.now.entering) step.now alpha_pq.now rho_p.now weight_p row.now) result }
 {
     let columns = form.columns.as_slice();
     let alpha = row.rho.dot(&columns[step.entering as usize])?;

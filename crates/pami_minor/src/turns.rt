@@ -93,8 +93,8 @@ impl Minor {
         requires turn { (f : TheForm) × (limit : ℕ) × (r : TheReached) × (row : InfeasibleRow)
             × IsPricing f limit r row slice self.old × (slice < slices (variables f)) }
         // One slice more is priced, where these are its entries.
-        ensures priced { (f : TheForm) (limit : ℕ) (r : TheReached) (row : InfeasibleRow) → IsPricing f limit r row slice self.old
-            → IsPriceOf f r row slice alpha.items → IsPricing f limit r row (slice + 1) self.new }
+        ensures priced { (f : TheForm) (limit : ℕ) (r : TheReached) (row : InfeasibleRow)
+            → IsPricing f limit r row slice self.old → IsPriceOf f r row slice alpha.items → IsPricing f limit r row (slice + 1) self.new }
     {
         self.alpha[slice as usize] = ListOf::from_vec(alpha);
     }

@@ -72,7 +72,8 @@ fn move_row(
     requires variable { row.now.variable < length form.now.columns }
     requires nonzero { is_zero pivot ≡ false }
     requires known { All (λ v. v < length form.now.columns) flips.now }
-    ensures { FollowsBy (λ m. record { theta = m.theta; flips = m.flips }) (move_by form.now stands.now rho.now pivot row.now flips.now) result }
+    ensures { FollowsBy (λ m. record { theta = m.theta; flips = m.flips })
+        (move_by form.now stands.now rho.now pivot row.now flips.now) result }
 {
     let flips = flip_column(alloc, form, stands, flips)?;
     let theta = step_length(rho, &flips, row.value, bound_of(form, row), pivot)?;
@@ -160,7 +161,8 @@ pub fn walk_at(
     requires variable { row.now.variable < length form.now.columns }
     ensures script { FollowsBy walked (walk_by form.now stands.now reduced.now alpha.now rho.now row.now) result }
     // Over what is solved at a basis it is the walk and the step of the theory, with the operations of the method.
-    ensures fresh { (b : Basis) (s : Fresh) → AreWalked (form_of form.now) b s stands.now reduced.now alpha.now rho.now row.now
+    ensures fresh { (b : Basis) (s : Fresh)
+        → AreWalked (form_of form.now) b s stands.now reduced.now alpha.now rho.now row.now
         → FollowsWalk (form_of form.now) b s row.now.place row.now.violation result }
 {
     walk_row(alloc, form, stands, reduced, alpha, rho, row)
