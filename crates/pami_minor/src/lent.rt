@@ -1,14 +1,17 @@
 //! What a Minor lends, and what it leaves of the state.
 
-ghost use Rattle.std.specs.Prelude.{◌≡◌};
+ghost use Rattle.std.specs.Prelude.{◌≡◌, ℕ, Some};
 ghost use Rattle.pami_theory.specs.Form.{Form as TheForm};
+ghost use Rattle.pami_theory.specs.Fresh.{row_at};
+ghost use Rattle.pami_theory.specs.Choice.{InfeasibleRow};
 ghost use Rattle.pami_method.specs.Batch.{Reached as TheReached};
+ghost use Rattle.pami_minor.specs.Fresh.{IsPricing};
 ghost use Rattle.pami_minor.specs.Follow.{IsStopped};
 
 use crate::minor::Minor;
 use pami_frac::FracList;
 use pami_state::BatchEnd;
-use pami_vec::{PlaceList, Stand, StandList, Step};
+use pami_vec::{PlaceList, SpVec, Stand, StandList, Step};
 
 impl Minor {
     /// The places that remain, in order of choice, without the one that was picked last.
@@ -23,6 +26,17 @@ impl Minor {
         ensures { result.now ≡ self.now.dropped.items }
     {
         self.dropped.as_slice()
+    }
+
+    /// The row of the inverse, by row, of the place that was picked last, before its step.
+    pub fn rho(&self) -> &SpVec
+        requires turn { (f : TheForm) × (limit : ℕ) × (r : TheReached) × (row : InfeasibleRow) × (n : ℕ)
+            × IsPricing f limit r row n self.now }
+        // It is the row of the inverse of the basis that the batch has reached.
+        ensures rho { (f : TheForm) (limit : ℕ) (r : TheReached) (row : InfeasibleRow) (n : ℕ)
+            → IsPricing f limit r row n self.now → result.now ≡ row_at r.fresh row.place }
+    {
+        &self.picked_row().at.rho
     }
 
     /// Where each variable stands now.
