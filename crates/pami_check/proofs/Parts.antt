@@ -20,7 +20,7 @@ use Rattle.pami_check.specs.declared.verdict.Condition.TheVariants as conditions
 use Rattle.pami_check.specs.declared.verdict.Verdict.{Verdict}
 use Rattle.pami_check.specs.declared.verdict.Verdict.TheVariants as verdicts
 use Rattle.pami_check.specs.Tests.{Test, behind, tested, plain, each_of}
-use Rattle.pami_check.specs.Verdict.{rest_script, reduced_test, sign_test, sign_at, sign_tests, objective_script, row_least, column_least, combination_script, finite_row, finite_column, finite_rows, finite_columns, positive_test, infeasible_tests}
+use Rattle.pami_check.specs.Verdict.{reduced_script, reduced_test, sign_test, sign_at, sign_tests, objective_script, row_least, column_least, combination_script, finite_row, finite_column, finite_rows, finite_columns, positive_test, infeasible_tests}
 use Rattle.pami_check.specs.Lists.{cost_by, column_signs, row_sign, row_signs, finite}
 use Rattle.pami_check.proofs.Tested.{first_same, each_append, each_shift}
 use Rattle.pami_check.proofs.Read.{first_get, second_get, cost_member}
@@ -28,7 +28,7 @@ use Rattle.pami_check.proofs.Read.{first_get, second_get, cost_member}
 -- ---- reduced costs
 pub rest_same : (c : Contents) (j : ℕ) (d : Column) (xs ys : List Fraction) →
     slice_get c.columns j ≡ Some d → length xs ≡ length c.columns → length ys ≡ length c.rows →
-    sub_dot (length ys) (get ys) (at d.entries) (minimised c.sense d.cost) ≡ rest_script (model_form c) (get (xs ++ ys)) j
+    sub_dot (length ys) (get ys) (at d.entries) (minimised c.sense d.cost) ≡ reduced_script (model_form c) (get (xs ++ ys)) j
 rest_same c j d xs ys e n m =
     let all = get (xs ++ ys) in
     ap (λ i. sub_dot i (get ys) (at d.entries) (minimised c.sense d.cost)) m
@@ -46,7 +46,7 @@ pub reduced_item : (c : Contents) (j : ℕ) (d : Column) (xs ys : List Fraction)
 reduced_item c j d xs ys v e n m f =
     let k : j < length xs = subst (λ i. j < i) (sym n) (slice_get_within c.columns j d e) in
     ap (λ o. tested (plain conditions.Reduced (Some j) ((then) o (λ t. Ok (is_same t v))) ∷ []) tt) (rest_same c j d xs ys e n m)
-    ∙ ap (λ z. tested (plain conditions.Reduced (Some j) ((then) (rest_script (model_form c) (get (xs ++ ys)) j) (λ t. Ok (is_same t z))) ∷ []) tt)
+    ∙ ap (λ z. tested (plain conditions.Reduced (Some j) ((then) (reduced_script (model_form c) (get (xs ++ ys)) j) (λ t. Ok (is_same t z))) ∷ []) tt)
     (f ∙ first_get xs ys j k)
 
 -- ---- signs

@@ -16,7 +16,7 @@ use Rattle.pami_theory.specs.Certificate.{IsComplementary}
 use Rattle.pami_theory.proofs.Signs.{is_same_iff}
 use Rattle.pami_theory.proofs.Forms.{by_variable, rows_point, point_rows}
 use Rattle.pami_check.specs.declared.verdict.Condition.TheVariants as conditions
-use Rattle.pami_check.specs.Verdict.{is_above, is_under, is_within, is_at, is_signed, bound_at, row_test, row_pair, column_tests, row_tests, point_tests, rest_script, reduced_test, reduced_tests, sign_at, sign_tests}
+use Rattle.pami_check.specs.Verdict.{is_at_least, is_at_most, is_within, is_at, is_complementary, bound_at, row_test, row_pair, column_tests, row_tests, point_tests, reduced_script, reduced_test, reduced_tests, sign_at, sign_tests}
 use Rattle.pami_check.proofs.Decides.{Decides, Each, decides_by, decides_both, decides_each, decides_bool, decides_script}
 
 -- ---- tests of single values
@@ -28,21 +28,21 @@ and_iff : (a b : Bool) (P Q : Type 0) → IsTrue a ↔ P → IsTrue b ↔ Q → 
 and_iff true b P Q h k = (λ e. (h.0 refl, k.0 e), λ p. k.1 p.1)
 and_iff false b P Q h k = (λ e. absurd (true≢false (sym e)), λ p. absurd (true≢false (sym (h.1 p.0))))
 
-above_iff : (low : Option Fraction) (x : Fraction) → IsTrue (is_above low x) ↔ ((b : Fraction) → low ≡ Some b → b ≤ᶠ x)
-above_iff None x = (λ e b h. absurd cc, λ h. refl)
-above_iff (Some l) x =
+at_least_iff : (low : Option Fraction) (x : Fraction) → IsTrue (is_at_least low x) ↔ ((b : Fraction) → low ≡ Some b → b ≤ᶠ x)
+at_least_iff None x = (λ e b h. absurd cc, λ h. refl)
+at_least_iff (Some l) x =
     let i = not_iff (is_below x l) (l ≤ᶠ x) (not_below_iff x l) in
     (λ e b h. let g : l ≡ b = cc in subst (λ z. z ≤ᶠ x) g (i.0 e), λ h. i.1 (h l refl))
 
-under_iff : (high : Option Fraction) (x : Fraction) → IsTrue (is_under high x) ↔ ((b : Fraction) → high ≡ Some b → x ≤ᶠ b)
-under_iff None x = (λ e b h. absurd cc, λ h. refl)
-under_iff (Some l) x =
+at_most_iff : (high : Option Fraction) (x : Fraction) → IsTrue (is_at_most high x) ↔ ((b : Fraction) → high ≡ Some b → x ≤ᶠ b)
+at_most_iff None x = (λ e b h. absurd cc, λ h. refl)
+at_most_iff (Some l) x =
     let i = not_iff (is_below l x) (x ≤ᶠ l) (not_below_iff l x) in
     (λ e b h. let g : l ≡ b = cc in subst (λ z. x ≤ᶠ z) g (i.0 e), λ h. i.1 (h l refl))
 
 within_iff : (l : Bounds) (x : Fraction) → IsTrue (is_within l x) ↔ IsWithin l x
 within_iff l x =
-    let i = and_iff (is_above l.low x) (is_under l.high x) _ _ (above_iff l.low x) (under_iff l.high x) in
+    let i = and_iff (is_at_least l.low x) (is_at_most l.high x) _ _ (at_least_iff l.low x) (at_most_iff l.high x) in
     (λ e. record { above_low = (i.0 e).0; below_high = (i.0 e).1 }, λ h. i.1 (h.above_low, h.below_high))
 
 -- ---- points
@@ -97,14 +97,14 @@ points_decided f reach x =
 abbrev pub IsReduced : Form → (ℕ → Fraction) → ℕ → Type 0
 IsReduced f d j = d j ≡ cost f j -ᶠ dot f.rows (λ i. d (row_variable f i)) (λ i. entry f i j)
 
-rest_is : (f : Form) (d : ℕ → Fraction) (j : ℕ) (t : Fraction) → rest_script f d j ≡ Ok t →
+reduced_is : (f : Form) (d : ℕ → Fraction) (j : ℕ) (t : Fraction) → reduced_script f d j ≡ Ok t →
     t ≡ cost f j -ᶠ dot f.rows (λ i. d (row_variable f i)) (λ i. entry f i j)
-rest_is f d j t e = sub_dot_value f.rows (λ i. d (row_variable f i)) (λ i. entry f i j) (cost f j) t e
+reduced_is f d j t e = sub_dot_value f.rows (λ i. d (row_variable f i)) (λ i. entry f i j) (cost f j) t e
 
 pub reduced_decided : (f : Form) (d : ℕ → Fraction) → Decides (reduced_tests f d) (Each f.columns (IsReduced f d))
 reduced_decided f d = decides_each f.columns (λ j. reduced_test f d j ∷ []) (IsReduced f d)
-    (λ j l. decides_script conditions.Reduced (Some j) (rest_script f d j) (λ t. is_same t (d j)) (IsReduced f d j)
-    (λ t e. same_for t (cost f j -ᶠ dot f.rows (λ i. d (row_variable f i)) (λ i. entry f i j)) (d j) (rest_is f d j t e)))
+    (λ j l. decides_script conditions.Reduced (Some j) (reduced_script f d j) (λ t. is_same t (d j)) (IsReduced f d j)
+    (λ t e. same_for t (cost f j -ᶠ dot f.rows (λ i. d (row_variable f i)) (λ i. entry f i j)) (d j) (reduced_is f d j t e)))
 
 -- ---- signs
 at_iff : (b : Option Fraction) (x : Fraction) → IsTrue (is_at b x) ↔ (b ≡ Some x)
@@ -126,12 +126,12 @@ sign_by false false l x d h k = (
   λ q. refl,
 )
 
-signed_iff : (l : Bounds) (x d : Fraction) → IsTrue (is_signed l x d) ↔ IsComplementary l x d
-signed_iff l x d = sign_by (is_below zero_f d) (is_below d zero_f) l x d (is_below_iff zero_f d) (is_below_iff d zero_f)
+complementary_iff : (l : Bounds) (x d : Fraction) → IsTrue (is_complementary l x d) ↔ IsComplementary l x d
+complementary_iff l x d = sign_by (is_below zero_f d) (is_below d zero_f) l x d (is_below_iff zero_f d) (is_below_iff d zero_f)
 
 abbrev IsSigned : Form → (ℕ → Fraction) → (ℕ → Fraction) → ℕ → Type 0
 IsSigned f x d v = IsComplementary (limits f v) (x v) (d v)
 
 pub signs_decided : (f : Form) (x d : ℕ → Fraction) → Decides (sign_tests f x d) (Each (variables f) (λ v. IsComplementary (limits f v) (x v) (d v)))
 signs_decided f x d = decides_each (variables f) (λ v. sign_at f x d v ∷ []) (IsSigned f x d)
-    (λ v l. decides_bool conditions.Sign (Some v) (is_signed (limits f v) (x v) (d v)) (IsSigned f x d v) (signed_iff (limits f v) (x v) (d v)))
+    (λ v l. decides_bool conditions.Sign (Some v) (is_complementary (limits f v) (x v) (d v)) (IsSigned f x d v) (complementary_iff (limits f v) (x v) (d v)))

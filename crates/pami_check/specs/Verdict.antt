@@ -20,16 +20,16 @@ use Rattle.pami_check.specs.Tests.{Test, tested, verdict_by, plain, each_of}
 
 -- ---- bounds and signs
 
-abbrev pub is_above : Option Fraction → Fraction → Bool
-is_above None x = true
-is_above (Some low) x = not (is_below x low)
+abbrev pub is_at_least : Option Fraction → Fraction → Bool
+is_at_least None x = true
+is_at_least (Some low) x = not (is_below x low)
 
-abbrev pub is_under : Option Fraction → Fraction → Bool
-is_under None x = true
-is_under (Some high) x = not (is_below high x)
+abbrev pub is_at_most : Option Fraction → Fraction → Bool
+is_at_most None x = true
+is_at_most (Some high) x = not (is_below high x)
 
 abbrev pub is_within : Bounds → Fraction → Bool
-is_within l x = is_above l.low x && is_under l.high x
+is_within l x = is_at_least l.low x && is_at_most l.high x
 
 -- the bounds of a direction: 0 where there is a bound
 abbrev pub zero_at : Option Fraction → Option Fraction
@@ -48,8 +48,8 @@ is_at None x = false
 is_at (Some b) x = is_same b x
 
 -- the value stands at the bound that the sign of its reduced cost asks for
-abbrev pub is_signed : Bounds → Fraction → Fraction → Bool
-is_signed l x d = by_sign d (is_at l.low x) (is_at l.high x) true
+abbrev pub is_complementary : Bounds → Fraction → Fraction → Bool
+is_complementary l x d = by_sign d (is_at l.low x) (is_at l.high x) true
 
 -- ---- points and directions
 
@@ -85,18 +85,18 @@ point_tests f reach x = column_tests f reach x ++ row_tests f reach x
 -- ---- optimal
 
 -- the cost of column j without the combination of its entries
-abbrev pub rest_script : Form → (ℕ → Fraction) → ℕ → Result Fraction Refused
-rest_script f d j = sub_dot f.rows (λ i. d (row_variable f i)) (λ i. entry f i j) (cost f j)
+abbrev pub reduced_script : Form → (ℕ → Fraction) → ℕ → Result Fraction Refused
+reduced_script f d j = sub_dot f.rows (λ i. d (row_variable f i)) (λ i. entry f i j) (cost f j)
 
 abbrev pub reduced_test : Form → (ℕ → Fraction) → ℕ → Test (Unit {0})
-reduced_test f d j = plain Reduced (Some j) ((then) (rest_script f d j) (λ t. Ok (is_same t (d j))))
+reduced_test f d j = plain Reduced (Some j) ((then) (reduced_script f d j) (λ t. Ok (is_same t (d j))))
 
 abbrev pub reduced_tests : Form → (ℕ → Fraction) → List (Test (Unit {0}))
 reduced_tests f d = each_of 0 f.columns (λ j. reduced_test f d j ∷ [])
 
 -- the value x and the reduced cost d of variable v, which has these bounds
 abbrev pub sign_test : Bounds → ℕ → Fraction → Fraction → Test (Unit {0})
-sign_test l v x d = plain Sign (Some v) (Ok (is_signed l x d))
+sign_test l v x d = plain Sign (Some v) (Ok (is_complementary l x d))
 
 abbrev pub sign_at : Form → (ℕ → Fraction) → (ℕ → Fraction) → ℕ → Test (Unit {0})
 sign_at f x d v = sign_test (limits f v) v (x v) (d v)

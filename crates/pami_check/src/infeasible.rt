@@ -105,7 +105,7 @@ fn finite_found(variable: u32, outcome: Result<Option<Frac>, Refused>) -> Result
 }
 
 /// The least value of the combination of the rows, by their bounds.
-fn rows_found(model: &Model, y: &[Frac]) -> Result<Frac, Verdict>
+fn rows_least(model: &Model, y: &[Frac]) -> Result<Frac, Verdict>
     requires { length y.now ≡ length (contents model.now).rows }
     ensures { result ≡ tested (finite_rows (model_form (contents model.now)) (get y.now)) zero_f }
 {
@@ -120,7 +120,7 @@ fn rows_found(model: &Model, y: &[Frac]) -> Result<Frac, Verdict>
 }
 
 /// A value without the greatest one of the combination of the columns, by their bounds.
-fn columns_found(model: &Model, start: Frac, y: &[Frac]) -> Result<Frac, Verdict>
+fn columns_least(model: &Model, start: Frac, y: &[Frac]) -> Result<Frac, Verdict>
     requires { length y.now ≡ length (contents model.now).rows }
     ensures { result ≡ tested (finite_columns (model_form (contents model.now)) (get y.now)) start }
 {
@@ -139,8 +139,8 @@ fn least_found(model: &Model, y: &[Frac]) -> Result<Frac, Verdict>
     ensures { result ≡ tested (finite_rows (model_form (contents model.now)) (get y.now)
         ++ finite_columns (model_form (contents model.now)) (get y.now)) zero_f }
 {
-    let total = rows_found(model, y)?;
-    columns_found(model, total, y)
+    let total = rows_least(model, y)?;
+    columns_least(model, total, y)
 }
 
 /// What the tests of a certificate of infeasibility find: the least value of the combination, which is above 0.

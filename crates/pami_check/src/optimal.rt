@@ -13,8 +13,8 @@ ghost use Rattle.pami_check.specs.Verdict.{reduced_tests, sign_test, sign_tests,
 ghost use Rattle.pami_check.specs.Lists.{row_signs, column_signs};
 
 use crate::point::{Reach, point_found};
-use crate::single::{is_same, is_signed, judged};
-use crate::sums::{column_rest, cost_sum, minimised};
+use crate::single::{is_same, is_complementary, judged};
+use crate::sums::{reduced_cost, cost_sum, minimised};
 use crate::verdict::{Condition, Verdict};
 use pami_frac::{Bounds, Entry, Frac, Refused};
 use pami_model::{Model, Sense};
@@ -29,7 +29,7 @@ fn reduced_outcome(
     requires { Rising 0 (length y.now) entries.now }
     ensures { result ≡ (then) (sub_dot (length y.now) (get y.now) (at entries.now) cost) (λ t. Ok (is_same t reduced)) }
 {
-    let total = column_rest(cost, y, entries)?;
+    let total = reduced_cost(cost, y, entries)?;
     Ok(is_same(total, reduced))
 }
 
@@ -52,8 +52,8 @@ fn reduced_found(model: &Model, d: &[Frac], y: &[Frac]) -> Result<(), Verdict>
 fn sign_found(bounds: &Bounds, variable: u32, value: &Frac, reduced: &Frac) -> Result<(), Verdict>
     ensures { result ≡ tested (sign_test bounds.now variable value.now reduced.now ∷ []) tt }
 {
-    let is_signed = is_signed(bounds, *value, *reduced);
-    judged(Condition::Sign, Some(variable), Ok(is_signed))
+    let is_complementary = is_complementary(bounds, *value, *reduced);
+    judged(Condition::Sign, Some(variable), Ok(is_complementary))
 }
 
 /// The tests of the signs of all reduced costs.

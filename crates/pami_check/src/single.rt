@@ -4,7 +4,7 @@ ghost use Rattle.std.specs.Prelude.{◌≡◌, ◌∷◌, []};
 ghost use Rattle.pami_algebra.specs.Operations.{is_below};
 ghost use Rattle.pami_theory.specs.Start.{is_same};
 ghost use Rattle.pami_check.specs.Tests.{tested, plain};
-ghost use Rattle.pami_check.specs.Verdict.{is_above, is_under, is_within, is_at, is_signed};
+ghost use Rattle.pami_check.specs.Verdict.{is_at_least, is_at_most, is_within, is_at, is_complementary};
 
 use crate::verdict::{Condition, Verdict};
 use pami_frac::{Bounds, Frac, Refused};
@@ -28,8 +28,8 @@ pub(crate) fn is_same(left: Frac, right: Frac) -> bool
 }
 
 /// Isn't the value below this bound?
-fn is_above(low: Option<Frac>, value: &Frac) -> bool
-    ensures { result ≡ is_above low value.now }
+fn is_at_least(low: Option<Frac>, value: &Frac) -> bool
+    ensures { result ≡ is_at_least low value.now }
 {
     match low {
         Some(bound) => !is_below(value, &bound),
@@ -38,8 +38,8 @@ fn is_above(low: Option<Frac>, value: &Frac) -> bool
 }
 
 /// Isn't the value above this bound?
-fn is_under(high: Option<Frac>, value: &Frac) -> bool
-    ensures { result ≡ is_under high value.now }
+fn is_at_most(high: Option<Frac>, value: &Frac) -> bool
+    ensures { result ≡ is_at_most high value.now }
 {
     match high {
         Some(bound) => !is_below(&bound, value),
@@ -51,7 +51,7 @@ fn is_under(high: Option<Frac>, value: &Frac) -> bool
 pub(crate) fn is_within(bounds: &Bounds, value: &Frac) -> bool
     ensures { result ≡ is_within bounds.now value.now }
 {
-    is_above(bounds.low, value) && is_under(bounds.high, value)
+    is_at_least(bounds.low, value) && is_at_most(bounds.high, value)
 }
 
 /// Is the value at this bound?
@@ -65,8 +65,8 @@ fn is_at(bound: Option<Frac>, value: Frac) -> bool
 }
 
 /// Does a value stand at the bound that the sign of its reduced cost asks for?
-pub(crate) fn is_signed(bounds: &Bounds, value: Frac, reduced: Frac) -> bool
-    ensures { result ≡ is_signed bounds.now value reduced }
+pub(crate) fn is_complementary(bounds: &Bounds, value: Frac, reduced: Frac) -> bool
+    ensures { result ≡ is_complementary bounds.now value reduced }
 {
     let zero = Frac::zero();
     if is_below(&zero, &reduced) {

@@ -42,7 +42,7 @@ fn entry_at(entries: &[Entry], row: u32) -> Option<Frac>
 }
 
 /// The entry at a row, where it counts in a sum: the value that it multiplies, which in most columns is 0, isn't.
-fn entry_for(entries: &[Entry], row: u32, value: &Frac) -> Option<Frac>
+fn entry_that_counts(entries: &[Entry], row: u32, value: &Frac) -> Option<Frac>
     requires { IsRising entries.now }
     ensures found { IfSome result (λ entry. entry ≡ at entries.now row) }
     ensures none { IfNone result ((at entries.now row ≡ zero_f) ⊎ (value.now ≡ zero_f)) }
@@ -62,7 +62,7 @@ pub(crate) fn row_sum(columns: &[Column], row: u32, values: &[Frac]) -> Result<F
     let mut total = Frac::zero();
     for (j, column) in columns.iter().enumerate() {
         let value = values[j];
-        if let Some(entry) = entry_for(column.entries.as_slice(), row, &value) {
+        if let Some(entry) = entry_that_counts(column.entries.as_slice(), row, &value) {
             total = add_product(total, entry, value)?;
         }
     }
@@ -110,7 +110,7 @@ pub(crate) fn column_sum(factors: &[Frac], entries: &[Entry]) -> Result<Frac, Re
 }
 
 /// A cost without the combination of the rows at its column, rows ascending.
-pub(crate) fn column_rest(cost: Frac, factors: &[Frac], entries: &[Entry]) -> Result<Frac, Refused>
+pub(crate) fn reduced_cost(cost: Frac, factors: &[Frac], entries: &[Entry]) -> Result<Frac, Refused>
     requires { Rising 0 (length factors.now) entries.now }
     ensures { result ≡ sub_dot (length factors.now) (get factors.now) (at entries.now) cost }
 {

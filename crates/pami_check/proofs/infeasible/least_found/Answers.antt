@@ -19,4 +19,4 @@ pub returns : goal.returns
 returns c =
     let f = model_form (contents c.args.model.now) in
     let y = get c.args.y.now in
-    step_goes (finite_rows f y) (finite_columns f y) zero_f c.in_ok-total.total _ c.in_ok-total.ensures c.columns_found.ensures
+    step_goes (finite_rows f y) (finite_columns f y) zero_f c.in_ok-total.total _ c.in_ok-total.ensures c.columns_least.ensures

@@ -43,8 +43,8 @@ loop-j-preserved c =
     let x = get_is values j value (subst (λ n. j < n) (sym c.requires.values) c.loop-j-test.true) c.index-values-j.is in
     let at_row = entry_by columns c.args.row j in
     let same = ap (λ z. add_product total z value) entry ∙ ap (add_product total at_row) x in
-    let next = c.match-entry_for.total in
-    let goes : add_product total at_row (get values j) ≡ Ok next = elim c.match-entry_for.branch [
+    let next = c.match-entry_that_counts.total in
+    let goes : add_product total at_row (get values j) ≡ Ok next = elim c.match-entry_that_counts.branch [
       | in-Some+in_ok-total w ↦
           let found = ap (λ z. add_product total z value) w.in-Some.ensures.found in
           sym same ∙ sym found ∙ sym w.in_ok-total.ensures ∙ ap Ok (sym w.total-is)

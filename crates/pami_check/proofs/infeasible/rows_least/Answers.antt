@@ -9,7 +9,7 @@ use Rattle.pami_check.specs.Lists.{finite}
 use Rattle.pami_check.proofs.Read.{at_place}
 use Rattle.pami_check.proofs.Parts.{finite_row_item}
 use Rattle.pami_check.proofs.Tested.{loop_goes, loop_stops}
-use Rattle.pami_check.proofs.infeasible.rows_found.Goals as goal
+use Rattle.pami_check.proofs.infeasible.rows_least.Goals as goal
 
 pub returns-in_err-total : goal.returns-in_err-total
 returns-in_err-total c =

@@ -5,7 +5,7 @@ use Rattle.pami_model_form.specs.ModelForm.{model_form}
 use Rattle.pami_theory.specs.Form.{zero_f}
 use Rattle.pami_check.specs.Tests.{tested, each_of}
 use Rattle.pami_check.specs.Verdict.{finite_row, finite_rows}
-use Rattle.pami_check.proofs.infeasible.rows_found.Given as goal
+use Rattle.pami_check.proofs.infeasible.rows_least.Given as goal
 
 abbrev pub invariant-loop-i : goal.invariant-loop-i
 invariant-loop-i l =

@@ -4,7 +4,7 @@ use Rattle.pami_model.specs.Contents.{contents}
 use Rattle.pami_model_form.specs.ModelForm.{model_form}
 use Rattle.pami_check.specs.Tests.{tested, each_of}
 use Rattle.pami_check.specs.Verdict.{finite_column, finite_columns}
-use Rattle.pami_check.proofs.infeasible.columns_found.Given as goal
+use Rattle.pami_check.proofs.infeasible.columns_least.Given as goal
 
 abbrev pub invariant-loop-j : goal.invariant-loop-j
 invariant-loop-j l =

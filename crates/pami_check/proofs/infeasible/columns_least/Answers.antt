@@ -13,7 +13,7 @@ use Rattle.pami_check.specs.Lists.{finite}
 use Rattle.pami_check.proofs.Read.{at_place, column_rises}
 use Rattle.pami_check.proofs.Parts.{finite_column_item}
 use Rattle.pami_check.proofs.Tested.{loop_goes, loop_stops}
-use Rattle.pami_check.proofs.infeasible.columns_found.Goals as goal
+use Rattle.pami_check.proofs.infeasible.columns_least.Goals as goal
 
 pub column_outcome-outcome-requires : goal.column_outcome-outcome-requires
 column_outcome-outcome-requires c =

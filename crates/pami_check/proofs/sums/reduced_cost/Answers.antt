@@ -5,7 +5,7 @@ use Rattle.pami_linear.specs.Lists.{get}
 use Rattle.pami_script.specs.Script.{sub_product, sub_entries_right}
 use Rattle.pami_script.proofs.Loops.{entry_goes, entry_stops, entry_ends, get_is, place_below}
 use Rattle.pami_script.proofs.Skipped.{sub_dot_sparse_right}
-use Rattle.pami_check.proofs.sums.column_rest.Goals as goal
+use Rattle.pami_check.proofs.sums.reduced_cost.Goals as goal
 
 pub bounds-factors-entry : goal.bounds-factors-entry
 bounds-factors-entry c =
