@@ -6,7 +6,7 @@ use Rattle.pami_cert.specs.CertText.{words_of, lines_in}
 use Rattle.std.specs.List.{All}
 use Rattle.pami_cert.specs.Read.{BeginsNone}
 use Rattle.pami_cert.proofs.Lists.{all_nil, all_more}
-use Rattle.pami_cert.specs.Plain.{IsPlain, ArePlain, HasPlainWords, IsFront}
+use Rattle.pami_cert.specs.Plain.{IsPlain, ArePlain, HasPlainWords, AreOtherLines}
 
 -- words with one blank between them
 abbrev pub joined : List (List ℕ) → List ℕ
@@ -87,10 +87,10 @@ text_cut ((w ∷ ws) ∷ ls) more h =
 
 -- ---- lines in front
 
-pub front_lines : (ls : List (List (List ℕ))) → IsFront ls → Lines ls
+pub front_lines : (ls : List (List (List ℕ))) → AreOtherLines ls → Lines ls
 front_lines [] h = tt
 front_lines (l ∷ ls) h = (h.0.0, front_lines ls h.1)
 
-pub front_skipped : (ls : List (List (List ℕ))) → IsFront ls → All BeginsNone ls
+pub front_skipped : (ls : List (List (List ℕ))) → AreOtherLines ls → All BeginsNone ls
 front_skipped [] h = all_nil BeginsNone
 front_skipped (l ∷ ls) h = all_more BeginsNone l ls h.0.1 (front_skipped ls h.1)

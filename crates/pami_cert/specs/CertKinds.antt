@@ -3,10 +3,10 @@ use Rattle.std.specs.Prelude.{ℕ, List, codes}
 use Rattle.pami_cert.specs.declared.cert.CertKind.{CertKind}
 use Rattle.pami_cert.specs.declared.cert.CertKind.TheVariants as kinds
 
-abbrev pub kind_word : CertKind → List ℕ
-kind_word kinds.Absent = codes "none"
-kind_word kinds.Word = codes "word"
-kind_word kinds.Name = codes "name"
-kind_word kinds.Number = codes "number"
-kind_word kinds.EndMissing = codes "end-missing"
-kind_word kinds.TooLong = codes "too-long"
+abbrev pub cert_kind_word : CertKind → List ℕ
+cert_kind_word kinds.Absent = codes "none"
+cert_kind_word kinds.Word = codes "word"
+cert_kind_word kinds.Name = codes "name"
+cert_kind_word kinds.Number = codes "number"
+cert_kind_word kinds.EndMissing = codes "end-missing"
+cert_kind_word kinds.TooLong = codes "too-long"

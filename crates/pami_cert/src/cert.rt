@@ -54,11 +54,11 @@ pub enum CertKind {
 
 impl CertKind {
     ghost use Rattle.std.specs.Prelude.{◌≡◌};
-    ghost use Rattle.pami_cert.specs.CertKinds.{kind_word};
+    ghost use Rattle.pami_cert.specs.CertKinds.{cert_kind_word};
 
     /// The word by which a refusal tells this kind.
     pub fn word(&self) -> &'static [u8]
-        ensures { result.now ≡ kind_word self.now }
+        ensures { result.now ≡ cert_kind_word self.now }
     {
         match self {
             CertKind::Absent => b"none",

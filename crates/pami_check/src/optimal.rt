@@ -13,8 +13,8 @@ ghost use Rattle.pami_check.specs.Verdict.{reduced_tests, sign_test, sign_tests,
 ghost use Rattle.pami_check.specs.Lists.{row_signs, column_signs};
 
 use crate::point::{Reach, point_found};
-use crate::single::{is_same, is_complementary, judged};
-use crate::sums::{reduced_cost, cost_sum, minimised};
+use crate::single::{is_complementary, is_same, judged};
+use crate::sums::{cost_sum, minimised, reduced_cost};
 use crate::verdict::{Condition, Verdict};
 use pami_frac::{Bounds, Entry, Frac, Refused};
 use pami_model::{Model, Sense};

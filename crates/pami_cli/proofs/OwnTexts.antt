@@ -24,7 +24,7 @@ use Rattle.pami_cert.specs.declared.cert.Cert.TheVariants as certs
 use Rattle.pami_cert.specs.CertLines.{cert_lines}
 use Rattle.pami_cert.specs.CertText.{Fits, IsCertText}
 use Rattle.pami_cert.specs.Sized.{IsSized}
-use Rattle.pami_cert.specs.Plain.{HasPlainNames, IsFront}
+use Rattle.pami_cert.specs.Plain.{HasPlainNames, AreOtherLines}
 use Rattle.pami_cert.proofs.PlainLines.{printed_is_text}
 use Rattle.pami_cert.proofs.Whole.{one_certificate, not_certificate_and_fault}
 use Rattle.pami_check.specs.declared.verdict.Verdict.{Verdict}
@@ -87,7 +87,7 @@ module _ (c : Contents) (names : HasPlainNames c) (o : Options) (told : Record) 
       ∙ sym (append_assoc heads (one ++ two) (first ∷ (certificate ++ behind)))
       ∙ sym (append_assoc (heads ++ (one ++ two)) (first ∷ []) (certificate ++ behind))
 
-  written_around : (cert : Cert) (first : List (List ℕ)) (behind : List (List (List ℕ))) → IsFront (first ∷ []) → IsSized c cert → Fits cert
+  written_around : (cert : Cert) (first : List (List ℕ)) (behind : List (List (List ℕ))) → AreOtherLines (first ∷ []) → IsSized c cert → Fits cert
       → answer_lines (named_of c) answer ≡ first ∷ (cert_lines c cert ++ behind) → length (run_text c o told answer) ≤ byte_limit → IsCertText c (run_text c o told answer) cert
   written_around cert first behind h sized fits e l = printed_is_text c (run_text c o told answer) cert (record {
     printable = record { names = names; sized = sized; numbers = fits };

@@ -21,7 +21,7 @@ use Rattle.pami_log.specs.declared.event.Event.{Event}
 use Rattle.pami_model_form.specs.Named.{names_of, counts_of, named_of}
 use Rattle.pami_log.specs.Events.{event_lines}
 use Rattle.pami_cert.specs.declared.cert.CertFault.{CertFault}
-use Rattle.pami_cert.specs.CertKinds.{kind_word as cert_kind_word}
+use Rattle.pami_cert.specs.CertKinds.{cert_kind_word}
 use Rattle.pami_check.specs.declared.verdict.Verdict.{Verdict}
 use Rattle.pami_check.specs.declared.verdict.Verdict.TheVariants.{Valid, Invalid, Refused}
 use Rattle.pami_check.specs.ConditionWords.{condition_word}
