@@ -21,10 +21,6 @@ no_number_first (b ∷ bs) lt d p = sym (number_none b bs d p)
 pub number_scanned : (text : List ℕ) (s : Scan) → s ≡ through Start text → is_number_scan s ≡ is_number text
 number_scanned text s e = ap is_number_scan e ∙ sym (number_is text)
 
-pub no_name_first : (text : List ℕ) → 0 < length text → starts_name (get_or text 0 0) ≡ false → false ≡ is_name text
-no_name_first [] lt n = refl
-no_name_first (b ∷ bs) lt n = rw n refl
-
 -- what begins a name may stand in it
 begins : (b : ℕ) → starts_name b ≡ true → is_name_byte b ≡ true
 begins b n = rw n refl
