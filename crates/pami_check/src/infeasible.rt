@@ -10,9 +10,8 @@ ghost use Rattle.pami_model.specs.Contents.{contents};
 ghost use Rattle.pami_model_form.specs.ModelForm.{model_form};
 ghost use Rattle.pami_check.specs.Tests.{tested};
 ghost use Rattle.pami_check.specs.Verdict.{with_bound, row_least, column_least, finite_rows, finite_columns, infeasible_tests};
-ghost use Rattle.pami_check.specs.Lists.{finite};
 
-use crate::single::is_below;
+use crate::single::{found, is_below};
 use crate::sums::column_sum;
 use crate::verdict::{Condition, Verdict};
 use pami_frac::{Bounds, Entry, Frac, Refused};
@@ -84,26 +83,6 @@ fn column_outcome(
     column_least(total, factor, bounds)
 }
 
-/// What a test with a total finds: the total behind it.
-fn finite_found(variable: u32, outcome: Result<Option<Frac>, Refused>) -> Result<Frac, Verdict>
-    ensures { result ≡ finite variable outcome }
-{
-    let condition = Condition::Finite;
-    let variable = Some(variable);
-    match outcome {
-        Ok(Some(total)) => Ok(total),
-        Ok(None) => Err(Verdict::Invalid {
-            condition,
-            variable,
-        }),
-        Err(refused) => Err(Verdict::Refused {
-            condition,
-            variable,
-            refused,
-        }),
-    }
-}
-
 /// The least value of the combination of the rows, by their bounds.
 fn rows_least(model: &Model, y: &[Frac]) -> Result<Frac, Verdict>
     requires { length y.now ≡ length (contents model.now).rows }
@@ -114,7 +93,7 @@ fn rows_least(model: &Model, y: &[Frac]) -> Result<Frac, Verdict>
     let rows = model.rows.as_slice();
     for (i, row) in rows.iter().enumerate() {
         let outcome = row_least(total, y[i], &row.bounds);
-        total = finite_found((count + i) as u32, outcome)?;
+        total = found(Condition::Finite, Some((count + i) as u32), outcome)?;
     }
     Ok(total)
 }
@@ -128,7 +107,7 @@ fn columns_least(model: &Model, start: Frac, y: &[Frac]) -> Result<Frac, Verdict
     let columns = model.columns.as_slice();
     for (j, column) in columns.iter().enumerate() {
         let outcome = column_outcome(total, y, column.entries.as_slice(), &column.bounds);
-        total = finite_found(j as u32, outcome)?;
+        total = found(Condition::Finite, Some(j as u32), outcome)?;
     }
     Ok(total)
 }

@@ -1,9 +1,9 @@
 //! Single tests: of two numbers, of a value and its bounds, and what an outcome comes to.
 
-ghost use Rattle.std.specs.Prelude.{◌≡◌, ◌∷◌, []};
+ghost use Rattle.std.specs.Prelude.{◌≡◌, ◌∷◌, [], Ok};
 ghost use Rattle.pami_algebra.specs.Operations.{is_below};
 ghost use Rattle.pami_theory.specs.Start.{is_same};
-ghost use Rattle.pami_check.specs.Tests.{tested, plain};
+ghost use Rattle.pami_check.specs.Tests.{behind, tested, plain};
 ghost use Rattle.pami_check.specs.Verdict.{is_at_least, is_at_most, is_within, is_at, is_complementary};
 
 use crate::verdict::{Condition, Verdict};
@@ -78,17 +78,17 @@ pub(crate) fn is_complementary(bounds: &Bounds, value: Frac, reduced: Frac) -> b
     }
 }
 
-/// What a test finds: nothing where its condition holds.
-pub(crate) fn judged(
+/// What a test with a total finds: the total behind it, which is `None` where its condition fails.
+pub(crate) fn found<T>(
     condition: Condition,
     variable: Option<u32>,
-    outcome: Result<bool, Refused>,
-) -> Result<(), Verdict>
-    ensures { result ≡ tested (plain condition variable outcome ∷ []) tt }
+    outcome: Result<Option<T>, Refused>,
+) -> Result<T, Verdict>
+    ensures { result ≡ behind condition variable outcome (λ total. Ok total) }
 {
     match outcome {
-        Ok(true) => Ok(()),
-        Ok(false) => Err(Verdict::Invalid {
+        Ok(Some(total)) => Ok(total),
+        Ok(None) => Err(Verdict::Invalid {
             condition,
             variable,
         }),
@@ -98,4 +98,20 @@ pub(crate) fn judged(
             refused,
         }),
     }
+}
+
+/// What a test finds: nothing where its condition holds.
+pub(crate) fn judged(
+    condition: Condition,
+    variable: Option<u32>,
+    outcome: Result<bool, Refused>,
+) -> Result<(), Verdict>
+    ensures { result ≡ tested (plain condition variable outcome ∷ []) tt }
+{
+    let kept = match outcome {
+        Ok(true) => Ok(Some(())),
+        Ok(false) => Ok(None),
+        Err(refused) => Err(refused),
+    };
+    found(condition, variable, kept)
 }
