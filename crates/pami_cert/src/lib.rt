@@ -8,11 +8,13 @@
 //!
 //! A caller, which stands among the tests:
 //!
-//!     /// The text of the certificate alone, without what stands around it.
-//!     fn reprinted(alloc: Global, bytes: &[u8], model: &Model) -> Result<Vec<u8>, Fault<CertFault>> {
-//!         let cert = read_cert(alloc, bytes, model)?;
-//!         Ok(print_cert(alloc, model, &cert)?)
-//!     }
+//! ```
+//! /// The text of the certificate alone, without what stands around it.
+//! fn reprinted(alloc: Global, bytes: &[u8], model: &Model) -> Result<Vec<u8>, Fault<CertFault>> {
+//!     let cert = read_cert(alloc, bytes, model)?;
+//!     Ok(print_cert(alloc, model, &cert)?)
+//! }
+//! ```
 #![tactic(auto)]
 
 mod cert;

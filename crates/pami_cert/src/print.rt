@@ -129,7 +129,8 @@ fn push_cert(out: &mut Vec<u8>, model: &Model, cert: &Cert) -> Result<(), OutOfM
     }
 }
 
-/// The text of a certificate: its lines, the columns and then the rows in the model's order.
+/// The text of a certificate: its lines, the columns and then the rows in the model's order. It wants a member
+/// for each column of the model in each list that goes by column (`x`, `d`), and one for each row in `r` and `y`.
 ///
 /// # Errors
 ///

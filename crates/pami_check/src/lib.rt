@@ -5,6 +5,8 @@
 //! that is refused before one; on a valid certificate holding against the model over fractions without bound, and so
 //! showing what it is a certificate of; and on an invalid one not holding. It takes no memory.
 //!
+//! A caller, which stands among the tests:
+//!
 //! ```
 //! /// Whether the certificate shows that no point is within all bounds of the model.
 //! fn shows_infeasible(model: &Model, cert: &Cert) -> bool
