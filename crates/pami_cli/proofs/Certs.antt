@@ -13,7 +13,8 @@ use Rattle.pami_model_form.specs.Named.{named_of}
 use Rattle.pami_script.specs.Script.{add_dot}
 use Rattle.pami_theory.specs.Form.{zero_f}
 use Rattle.pami_model_form.specs.ModelForm.{member}
-use Rattle.pami_lines.specs.Certificate.{Valued, valued_from, named_lines, optimal_lines, dual_infeasible_lines, certificate_of, objective_in, kept_or_none}
+use Rattle.pami_lines.specs.Certificate.{Valued, valued_from, named_lines, optimal_lines, dual_infeasible_lines, certificate_of, objective_in}
+use Rattle.pami_lines.specs.Certificate.{kept_or_none}
 use Rattle.pami_cert.specs.declared.cert.Cert.TheVariants.{Optimal}
 use Rattle.pami_cert.specs.Sized.{AreSized, IsSized}
 use Rattle.pami_cert.specs.CertLines.{cert_lines}
@@ -50,7 +51,8 @@ valued_moved (name ∷ names) u v x d y e h k =
     ap (λ z. record { name = name; value = z; reduced = d u } ∷ valued_from (u + 1) names x d) (h u v (omega arith) (omega arith) (omega arith))
     ∙ ap (λ z. record { name = name; value = y v; reduced = z } ∷ valued_from (u + 1) names x d) (k u v (omega arith) (omega arith) (omega arith))
     ∙ ap (λ (zs : List Valued). record { name = name; value = y v; reduced = e v } ∷ zs)
-    (valued_moved names (u + 1) (v + 1) x d y e (λ i j l m p. h i j (omega arith) (omega arith) (omega (arith, p))) (λ i j l m p. k i j (omega arith) (omega arith) (omega (arith, p))))
+    (valued_moved names (u + 1) (v + 1) x d y e
+    (λ i j l m p. h i j (omega arith) (omega arith) (omega (arith, p))) (λ i j l m p. k i j (omega arith) (omega arith) (omega (arith, p))))
 
 named_moved : (tag : List ℕ) (names : List (List ℕ)) (u v : ℕ) (x y : ℕ → Fraction) →
     ((i k : ℕ) → u ≤ i → i < u + length names → i + v ≡ k + u → x i ≡ y k) →
@@ -105,7 +107,8 @@ direction_lines c z =
 
 -- ---- how they are made
 
-pub best_made : (c : Contents) (values reduced : List Fraction) (columns : List Column) (told : Option Fraction) (x d r y : List Fraction) → columns ≡ c.columns →
+pub best_made : (c : Contents) (values reduced : List Fraction) (columns : List Column) (told : Option Fraction) (x d r y : List Fraction)
+    → columns ≡ c.columns →
     told ≡ kept_or_none (add_dot (length columns) (λ j. member (λ (column : Column). column.cost) zero_f columns j) (get values) c.constant) →
     x ≡ take (length columns) values → d ≡ take (length columns) reduced → r ≡ drop (length columns) values → y ≡ drop (length columns) reduced →
     Optimal told x d r y ≡ best_cert c values reduced
@@ -115,6 +118,9 @@ best_made c values reduced columns told x d r y p t xs ds rs ys =
     let n : ℕ = length c.columns in
     ap (λ (z : Option Fraction). Optimal z x d r y) objective
     ∙ ap (λ (z : List Fraction). Optimal (objective_in (named_of c) (get values)) z d r y) (xs ∙ ap (λ (cs : List Column). take (length cs) values) p)
-    ∙ ap (λ (z : List Fraction). Optimal (objective_in (named_of c) (get values)) (take n values) z r y) (ds ∙ ap (λ (cs : List Column). take (length cs) reduced) p)
-    ∙ ap (λ (z : List Fraction). Optimal (objective_in (named_of c) (get values)) (take n values) (take n reduced) z y) (rs ∙ ap (λ (cs : List Column). drop (length cs) values) p)
-    ∙ ap (λ (z : List Fraction). Optimal (objective_in (named_of c) (get values)) (take n values) (take n reduced) (drop n values) z) (ys ∙ ap (λ (cs : List Column). drop (length cs) reduced) p)
+    ∙ ap (λ (z : List Fraction). Optimal (objective_in (named_of c) (get values)) (take n values) z r y)
+    (ds ∙ ap (λ (cs : List Column). take (length cs) reduced) p)
+    ∙ ap (λ (z : List Fraction). Optimal (objective_in (named_of c) (get values)) (take n values) (take n reduced) z y)
+    (rs ∙ ap (λ (cs : List Column). drop (length cs) values) p)
+    ∙ ap (λ (z : List Fraction). Optimal (objective_in (named_of c) (get values)) (take n values) (take n reduced) (drop n values) z)
+    (ys ∙ ap (λ (cs : List Column). drop (length cs) reduced) p)

@@ -14,10 +14,12 @@ use Rattle.pami_method.specs.Phases.{Phase, Record}
 use Rattle.pami_lines.specs.Head.{Counts, head_lines}
 use Rattle.pami_lines.specs.Names.{Names, variable_word}
 use Rattle.pami_lines.specs.Letters.{letter_word}
-use Rattle.pami_text.specs.Record.{drop_lines, flip_lines, pivot_line, minor_lines, last_lines, refused_lines, major_lines, lines_after, walk_lines, phase_lines}
+use Rattle.pami_text.specs.Record.{drop_lines, flip_lines, pivot_line, minor_lines, last_lines, refused_lines, major_lines, lines_after, walk_lines}
+use Rattle.pami_text.specs.Record.{phase_lines}
 use Rattle.pami_cert.specs.CertText.{is_head}
 use Rattle.pami_cert.specs.Plain.{IsPlain, ArePlain, HasPlainWords, AreOtherLines}
-use Rattle.pami_cli.proofs.PlainWords.{word_plain, decimal_plain, decimals_plain, printed_plain, letter_plain, mode_plain, refused_plain, variable_plain}
+use Rattle.pami_cli.proofs.PlainWords.{word_plain, decimal_plain, decimals_plain, printed_plain, letter_plain, mode_plain, refused_plain}
+use Rattle.pami_cli.proofs.PlainWords.{variable_plain}
 
 -- ---- lists of lines
 
@@ -75,7 +77,8 @@ module _ (n : Names) (columns : ArePlain n.columns) (rows : ArePlain n.rows) whe
 
   minor_earlier : (m : Minor) → AreOtherLines (minor_lines n m)
   minor_earlier m =
-      earlier_more (drop_lines m.dropped) (flip_lines n m.reached.basis m.step.flips ++ pivot_line n (suc m.reached.count) m.step ∷ []) (drops_earlier m.dropped)
+      earlier_more (drop_lines m.dropped) (flip_lines n m.reached.basis m.step.flips ++ pivot_line n (suc m.reached.count) m.step ∷ [])
+      (drops_earlier m.dropped)
       (earlier_more (flip_lines n m.reached.basis m.step.flips) (pivot_line n (suc m.reached.count) m.step ∷ []) (flips_earlier m.reached.basis m.step.flips)
       (pivot_earlier (suc m.reached.count) m.step))
 
@@ -107,7 +110,8 @@ module _ (n : Names) (columns : ArePlain n.columns) (rows : ArePlain n.rows) whe
   phase_earlier o k (Some p) = (((word_plain (codes "phase") refl, (decimal_plain k, tt)), refl), walk_earlier p.form o p.start p.majors)
 
   -- all that stands before an answer
-  pub run_earlier : (counts : Counts) (o : Options) (r : Record) → AreOtherLines (head_lines counts ++ (phase_lines n o 1 r.phase_one ++ phase_lines n o 2 r.phase_two))
+  pub run_earlier : (counts : Counts) (o : Options) (r : Record) →
+      AreOtherLines (head_lines counts ++ (phase_lines n o 1 r.phase_one ++ phase_lines n o 2 r.phase_two))
   run_earlier counts o r =
       earlier_more (head_lines counts) (phase_lines n o 1 r.phase_one ++ phase_lines n o 2 r.phase_two) (head_earlier counts)
       (earlier_more (phase_lines n o 1 r.phase_one) (phase_lines n o 2 r.phase_two) (phase_earlier o 1 r.phase_one) (phase_earlier o 2 r.phase_two))

@@ -1,5 +1,6 @@
 -- The text that `solve` wrote is a text of its answer's certificate, and `check` doesn't find that invalid.
-use Rattle.std.proofs.Common.{◌≡◌, ℕ, ◌≤◌, ◌⊎◌, inl, inr, IfSome, List, [], ◌∷◌, ◌++◌, length, take, drop, codes, Option, None, Some, refl, sym, ap, ◌∙◌, subst, append_assoc}
+use Rattle.std.proofs.Common.{◌≡◌, ℕ, ◌+◌, ◌≤◌, ◌⊎◌, inl, inr, IfSome, List, [], ◌∷◌, ◌++◌, length, take, drop, codes, Option, None, Some, refl, sym}
+use Rattle.std.proofs.Common.{ap, ◌∙◌, subst, append_assoc}
 use Rattle.std.proofs.lemmas.List.{append-nil, take-append-drop}
 use Rattle.pami_algebra.specs.Fraction.{Fraction}
 use Rattle.pami_linear.specs.Lists.{get}
@@ -36,7 +37,7 @@ use Rattle.pami_cli.specs.declared.status.Status.{Status}
 use Rattle.pami_cli.specs.declared.status.Status.TheVariants as statuses
 use Rattle.pami_cli.specs.CertOf.{best_cert, direction_cert, cert_of}
 use Rattle.pami_cli.specs.Text.{run_text}
-use Rattle.pami_cli.specs.Reading.{Format, IsTextOf}
+use Rattle.pami_cli.specs.Reading.{Format}
 use Rattle.pami_cli.specs.Answer.{options_of, HasStatus, HoldsBest, HoldsFor, AnswersRun, AnswersModel}
 use Rattle.pami_cli.specs.Judged.{verdict_status, Judges}
 use Rattle.pami_cli.specs.Run.{Answers, ChecksText, HasCertificate}
@@ -88,7 +89,8 @@ module _ (c : Contents) (names : HasPlainNames c) (o : Options) (told : Record) 
       ∙ sym (append_assoc (heads ++ (one ++ two)) (first ∷ []) (certificate ++ behind))
 
   written_around : (cert : Cert) (first : List (List ℕ)) (behind : List (List (List ℕ))) → AreOtherLines (first ∷ []) → IsSized c cert → Fits cert
-      → answer_lines (named_of c) answer ≡ first ∷ (cert_lines c cert ++ behind) → length (run_text c o told answer) ≤ byte_limit → IsCertText c (run_text c o told answer) cert
+      → answer_lines (named_of c) answer ≡ first ∷ (cert_lines c cert ++ behind) → length (run_text c o told answer) ≤ byte_limit
+      → IsCertText c (run_text c o told answer) cert
   written_around cert first behind h sized fits e l = printed_is_text c (run_text c o told answer) cert (record {
     printable = record { names = names; sized = sized; numbers = fits };
     front = early ++ first ∷ [];
@@ -101,20 +103,24 @@ module _ (c : Contents) (names : HasPlainNames c) (o : Options) (told : Record) 
   })
 
 -- the text of a run is a text of its answer's certificate
-pub run_is_text : (c : Contents) (names : HasPlainNames c) (o : Options) (told : Record) (answer : Answer) (cert : Cert) → cert_of c answer ≡ Some cert → IsSized c cert → Fits cert
+pub run_is_text : (c : Contents) (names : HasPlainNames c) (o : Options) (told : Record) (answer : Answer) (cert : Cert)
+    → cert_of c answer ≡ Some cert → IsSized c cert → Fits cert
     → length (run_text c o told answer) ≤ byte_limit → IsCertText c (run_text c o told answer) cert
 run_is_text c names o told (Optimal st s) cert e sized fits l =
     let first = answer_line (codes "optimal" ∷ []) in
     let basis = basis_line (counts_of c) (stand_at st.basis) ∷ [] in
-    written_around c names o told (Optimal st s) cert first basis ((((word_plain (codes "answer") refl), (word_plain (codes "optimal") refl, tt)), refl), tt) sized fits
+    written_around c names o told (Optimal st s) cert first basis
+    ((((word_plain (codes "answer") refl), (word_plain (codes "optimal") refl, tt)), refl), tt) sized fits
     (ap (λ (ls : List (List (List ℕ))). first ∷ (ls ++ basis)) (sym (best_lines c s.values s.reduced) ∙ ap (cert_lines c) (some_is e))) l
 run_is_text c names o told (Infeasible y) cert e sized fits l =
     let first = answer_line (codes "infeasible" ∷ []) in
-    written_around c names o told (Infeasible y) cert first [] ((((word_plain (codes "answer") refl), (word_plain (codes "infeasible") refl, tt)), refl), tt) sized fits
+    written_around c names o told (Infeasible y) cert first []
+    ((((word_plain (codes "answer") refl), (word_plain (codes "infeasible") refl, tt)), refl), tt) sized fits
     (ap (λ (ls : List (List (List ℕ))). first ∷ ls) (ap (cert_lines c) (some_is e) ∙ sym (append-nil (cert_lines c cert)))) l
 run_is_text c names o told (DualInfeasible st s) cert e sized fits l =
     let first = answer_line (codes "dual-infeasible" ∷ []) in
-    written_around c names o told (DualInfeasible st s) cert first [] ((((word_plain (codes "answer") refl), (word_plain (codes "dual-infeasible") refl, tt)), refl), tt) sized fits
+    written_around c names o told (DualInfeasible st s) cert first []
+    ((((word_plain (codes "answer") refl), (word_plain (codes "dual-infeasible") refl, tt)), refl), tt) sized fits
     (ap (λ (ls : List (List (List ℕ))). first ∷ ls) (sym (direction_lines c s.values) ∙ ap (cert_lines c) (some_is e) ∙ sym (append-nil (cert_lines c cert)))) l
 run_is_text c names o told (Limit st) cert e sized fits l = absurd (none_is e)
 run_is_text c names o told (Overflow r) cert e sized fits l = absurd (none_is e)
@@ -133,7 +139,8 @@ pub answer_holds : (c : Contents) (answer : Answer) (cert : Cert) → cert_of c 
 answer_holds c (Optimal st s) cert e h = subst (Holds c) (some_is e) (best_holds c s h)
 answer_holds c (Infeasible y) cert e h = subst (Holds c) (some_is e) h
 answer_holds c (DualInfeasible st s) cert e h =
-    subst (Holds c) (some_is e) (subst (λ (z : List Fraction). HoldsDualInfeasible (model_form c) (get z)) (sym (take-append-drop (length c.columns) s.values)) h)
+    subst (Holds c) (some_is e) (subst (λ (z : List Fraction). HoldsDualInfeasible (model_form c) (get z))
+    (sym (take-append-drop (length c.columns) s.values)) h)
 answer_holds c (Limit st) cert e h = absurd (none_is e)
 answer_holds c (Overflow r) cert e h = absurd (none_is e)
 
@@ -148,7 +155,8 @@ not_invalid c cert s h e = go (verdict c cert) refl e
     go (verdicts.Refused condition variable refused) p q = inr q
 
 -- a text of a certificate that holds is judged so
-held_judged : (c : Contents) (bytes : List ℕ) (cert : Cert) (s : Status) (w : List ℕ) → IsCertText c bytes cert → Holds c cert → Judges c bytes s w → (s ≡ statuses.Good) ⊎ (s ≡ statuses.Unchecked)
+held_judged : (c : Contents) (bytes : List ℕ) (cert : Cert) (s : Status) (w : List ℕ)
+    → IsCertText c bytes cert → Holds c cert → Judges c bytes s w → (s ≡ statuses.Good) ⊎ (s ≡ statuses.Unchecked)
 held_judged c bytes cert s w is h (inl j) =
     let same : cert ≡ j.cert = one_certificate c bytes cert j.cert is j.text_of in
     not_invalid c cert s h (j.status_is ∙ ap (λ (k : Cert). verdict_status (verdict c k)) (sym same))
@@ -162,20 +170,25 @@ has_cert c (DualInfeasible st s) status e h = (direction_cert c s.values, refl)
 has_cert c (Limit st) status e h = absurd (no_certificate_at_limit status e h)
 has_cert c (Overflow r) status e h = absurd (no_certificate_at_overflow status e h)
 
-module _ (format : Format) (bytes : List ℕ) (limit : ℕ) (status : Status) (written : List ℕ) (has : HasCertificate status) (short : length written ≤ byte_limit) where
-  run_judged : (c : Contents) → HasPlainNames c → AnswersRun c limit status written → (s : Status) (w : List ℕ) → Judges c written s w → (s ≡ statuses.Good) ⊎ (s ≡ statuses.Unchecked)
+module _ (format : Format) (bytes : List ℕ) (limit : ℕ) (status : Status) (written : List ℕ)
+    (has : HasCertificate status) (short : length written ≤ byte_limit) where
+  run_judged : (c : Contents) → HasPlainNames c → AnswersRun c limit status written → (s : Status) (w : List ℕ) → Judges c written s w
+      → (s ≡ statuses.Good) ⊎ (s ≡ statuses.Unchecked)
   run_judged c names a s w j =
       let found = has_cert c a.answer status a.has_status has in
       let printable = subst (λ (k : Option Cert). IfSome k (λ (cert : Cert). IsSized c cert × Fits cert)) found.1 a.certified in
-      let text_of = run_is_text c names (options_of limit) a.told a.answer found.0 found.1 printable.0 printable.1 (subst (λ (z : List ℕ). length z ≤ byte_limit) a.written_is short) in
-      held_judged c written found.0 s w (subst (λ (z : List ℕ). IsCertText c z found.0) (sym a.written_is) text_of) (answer_holds c a.answer found.0 found.1 a.holds) j
+      let text_of = run_is_text c names (options_of limit) a.told a.answer found.0 found.1 printable.0 printable.1
+      (subst (λ (z : List ℕ). length z ≤ byte_limit) a.written_is short) in
+      held_judged c written found.0 s w (subst (λ (z : List ℕ). IsCertText c z found.0) (sym a.written_is) text_of)
+      (answer_holds c a.answer found.0 found.1 a.holds) j
 
   pub own_text : Answers format bytes limit status written
       → (s : Status) (w : List ℕ) → ChecksText format bytes written s w → (s ≡ statuses.Good) ⊎ (s ≡ statuses.Unchecked)
   own_text (inr refused) s w check = absurd (no_certificate_refused status refused.status_is has)
   own_text (inl a) s w check = by_model a.answer check
     where
-      by_check : AnswersRun a.model limit status written → first_wide (model_form a.model).bounds ≡ None → ChecksText format bytes written s w → (s ≡ statuses.Good) ⊎ (s ≡ statuses.Unchecked)
+      by_check : AnswersRun a.model limit status written → first_wide (model_form a.model).bounds ≡ None → ChecksText format bytes written s w
+          → (s ≡ statuses.Good) ⊎ (s ≡ statuses.Unchecked)
       by_check run widths (inl r) = absurd (refused_or_accepted format bytes a.model w r.1 (record { text_of = a.text_of; widths = widths }))
       by_check run widths (inr k) =
           run_judged a.model (read_names_are_plain format bytes a.model a.text_of) run s w

@@ -35,4 +35,4 @@ pub mod Totals
 pub mod Entered
 pub mod Spans
 pub mod Spanned
-pub mod FileNames
+pub mod ModelNames

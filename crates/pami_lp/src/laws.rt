@@ -4,7 +4,7 @@ ghost use Rattle.std.specs.Prelude.{◌≡◌, ℕ, List, Ok};
 ghost use Rattle.pami_model.specs.Contents.{Contents};
 ghost use Rattle.pami_model.specs.declared.fault.FileFault.{FileFault};
 ghost use Rattle.pami_model.specs.Draft.{Draft};
-ghost use Rattle.pami_model.specs.FileNames.{HasFileNames};
+ghost use Rattle.pami_model.specs.ModelNames.{HasModelNames};
 ghost use Rattle.pami_lp.specs.Gather.{IsBounded, IsEntered, IsGathered, IsPriced};
 ghost use Rattle.pami_lp.specs.Grammar.{File};
 ghost use Rattle.pami_lp.specs.Meaning.{draft_of};
@@ -55,6 +55,6 @@ pub fn bounds_are_effects()
 {}
 
 /// The names of a text's model are names of it, or R1, R2, .. of unnamed rows: none is empty, and each byte is above the space.
-pub fn names_are_tokens()
-    ensures { (bytes : List ℕ) (c : Contents) → Lp bytes c → HasFileNames c }
+pub fn names_are_unbroken()
+    ensures { (bytes : List ℕ) (c : Contents) → Lp bytes c → HasModelNames c }
 {}

@@ -23,6 +23,6 @@ mod value;
 pub use kind::{Move, Place, Role, Section};
 pub use laws::{
     bounds_are_effects, costs_are_sums, entries_are_sums, files_are_gathered, model_or_fault,
-    names_are_tokens, not_model_and_fault, one_first_fault, one_model,
+    names_are_unbroken, not_model_and_fault, one_first_fault, one_model,
 };
 pub use read::read_lp;

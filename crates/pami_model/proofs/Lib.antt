@@ -5,4 +5,4 @@ pub mod Changed
 pub mod Kept
 pub mod Order
 pub mod Finish
-pub mod FileNames
+pub mod ModelNames

@@ -7,4 +7,4 @@ pub mod Number
 pub mod Refusal
 pub mod FirstFault
 pub mod KindWords
-pub mod FileNames
+pub mod ModelNames

@@ -2,7 +2,7 @@ pub mod Changed
 pub mod ColumnLines
 pub mod Columns
 pub mod Counts
-pub mod FileNames
+pub mod ModelNames
 pub mod Keys
 pub mod Limited
 pub mod Lines

@@ -20,4 +20,4 @@ mod text;
 mod word;
 
 pub use kind::{LimitKind, RowKind, Section, Sides, Told};
-pub use read::{model_or_fault, names_are_words, not_both, one_fault, one_model, read_mps};
+pub use read::{model_or_fault, names_are_unbroken, not_both, one_fault, one_model, read_mps};

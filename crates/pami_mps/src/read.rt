@@ -3,7 +3,7 @@
 ghost use Rattle.std.specs.Prelude.{◌≡◌, ◌⊎◌, ℕ, List, IfOk};
 ghost use Rattle.pami_model.specs.declared.fault.FileFault.{FileFault};
 ghost use Rattle.pami_model.specs.Contents.{Contents, contents};
-ghost use Rattle.pami_model.specs.FileNames.{HasFileNames};
+ghost use Rattle.pami_model.specs.ModelNames.{HasModelNames};
 ghost use Rattle.pami_mps.specs.Mps.{Mps, FirstFault, IsRefused};
 ghost use Rattle.pami_mps.specs.Reader.{seen_by_reader, placed_at, IsRead};
 
@@ -109,6 +109,6 @@ pub fn not_both()
 {}
 
 /// The names of a text's model are words of it: none is empty, and each byte is above the space.
-pub fn names_are_words()
-    ensures { (bytes : List ℕ) (c : Contents) → Mps bytes c → HasFileNames c }
+pub fn names_are_unbroken()
+    ensures { (bytes : List ℕ) (c : Contents) → Mps bytes c → HasModelNames c }
 {}

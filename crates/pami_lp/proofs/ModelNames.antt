@@ -1,36 +1,27 @@
 -- The names of a model are names of its text, or R1, R2, ..: not empty, and of bytes above the space.
-use Rattle.std.proofs.Common.{◌≡◌, ◌<◌, ◌≤◌, ◌+◌, ◌*◌, ◌^◌, ◌/◌, ◌%◌, ℕ, zero, suc, Bool, true, false, true≢false, cond, not, ◌&&◌, ◌||◌, nat_eq, nat_le, nat_lt, codes, decimal, List, [], ◌∷◌, ◌++◌, length, map, fold, Option, None, Some, is_some, Result, Ok, Err, refl, sym, ap, subst, ◌∙◌, arith, All}
+use Rattle.std.proofs.Common.{◌≡◌, ◌<◌, ◌≤◌, ◌+◌, ◌^◌, ◌%◌, ℕ, Bool, true, false, true≢false, cond, not, ◌&&◌, ◌||◌, nat_eq, nat_le, codes, decimal}
+use Rattle.std.proofs.Common.{List, [], ◌∷◌, ◌++◌, length, map, fold, Option, None, Some, is_some, refl, sym, ap, subst, ◌∙◌, arith, All}
 use Rattle.std.specs.List.{AllByRecursion, flat_map, list_all}
-use Rattle.std.proofs.lemmas.Bool.{ltb-true, leb-true, eqb-true}
+use Rattle.std.proofs.lemmas.Bool.{leb-true, eqb-true}
 use Rattle.std.proofs.lemmas.Fmt.{decimal_by_steps}
 use Rattle.std.proofs.lemmas.List.Elements.{All-from_recursion}
-use Rattle.pami_frac.specs.Answers.{then as chain}
 use Rattle.pami_frac.specs.Decimal.{is_digit, is_point}
-use Rattle.pami_frac.specs.declared.list.Bounds.{Bounds}
-use Rattle.pami_frac.specs.declared.list.Entry.{Entry}
-use Rattle.pami_model.specs.declared.fault.BuildFault.{BuildFault}
-use Rattle.pami_model.specs.declared.fault.BuildFault.TheVariants as faults
-use Rattle.pami_model.specs.declared.fault.FileKind.{FileKind}
-use Rattle.pami_model.specs.declared.fault.FileKind.TheVariants as kinds
-use Rattle.pami_model.specs.declared.fault.What.TheVariants as what
 use Rattle.pami_model.specs.declared.list.Row.{Row as ModelRow}
-use Rattle.pami_model.specs.Contents.{Contents, contents_of}
-use Rattle.pami_model.specs.Draft.{Draft, is_crossed, new_row, place_of, row_fault}
-use Rattle.pami_model.specs.FileNames.{IsFileName, HasFileNames}
-use Rattle.pami_model.specs.Judgement.{wrong_if}
-use Rattle.pami_model.specs.Refusal.{judge_build}
-use Rattle.pami_model.specs.Rules.{names_of_rows, names_of_columns, row_limit}
-use Rattle.pami_model.proofs.FileNames.{AreFileNames, IsAbove, all_names, finished_names, name_from, names_joined, one_byte}
-use Rattle.pami_model.proofs.Judging.{both_none, unset}
+use Rattle.pami_model.specs.Contents.{Contents}
+use Rattle.pami_model.specs.Draft.{place_of}
+use Rattle.pami_model.specs.ModelNames.{IsModelName, HasModelNames}
+use Rattle.pami_model.specs.Rules.{names_of_rows, names_of_columns}
+use Rattle.pami_model.proofs.ModelNames.{AreModelNames, IsAbove, all_names, finished_names, name_from, names_joined}
 use Rattle.pami_lp_text.specs.declared.kind.Class.{Class}
 use Rattle.pami_lp_text.specs.declared.kind.Class.TheVariants as classes
 use Rattle.pami_lp_text.specs.declared.kind.Relation.TheVariants as relations
 use Rattle.pami_lp_text.specs.Classes.{Symbol, class_by, first_text, head_class, is_word, plain_class, sign_class, symbol_of, symbols}
 use Rattle.pami_lp_text.specs.Lexeme.{Word, is_letter, is_name, is_name_byte, is_symbol, starts_name, text_words}
-use Rattle.pami_lp.specs.Gather.{file_names, goal_names, once, part_names, rows_from, section_names, side_names, sides_of, terms_names, with_name}
-use Rattle.pami_lp.specs.Grammar.{Bound, Set, From, Between, Freed, File, Further, Goal, Nothing, Parts, Item, Later, Part, Named, Alone, Row, Side, Right, Left, Both, Size, Number, Infinity, Term, Terms, Turn, Value, bound, bounds, ending, file, further, goal, item_of, items_of, label, later, number_before, part, row, rows, rows_word, section, side, signs, size, term, terms, value}
-use Rattle.pami_lp.specs.Lp.{Lp, tokens_of}
-use Rattle.pami_lp.specs.Meaning.{draft_of, take_rows, take_side}
+use Rattle.pami_lp.specs.Gather.{file_names, goal_names, part_names, rows_from, section_names, side_names, terms_names, with_name}
+use Rattle.pami_lp.specs.Grammar.{Bound, Set, From, Between, Freed, File, Further, Goal, Nothing, Parts, Item, Later, Part, Named, Alone, Row, Side}
+use Rattle.pami_lp.specs.Grammar.{Right, Left, Both, Number, Term, Terms, Turn, Value, bound, bounds, file, further, goal, item_of, items_of, label}
+use Rattle.pami_lp.specs.Grammar.{later, number_before, part, rows, rows_word, section, side, signs, size, term, terms, value}
+use Rattle.pami_lp.specs.Lp.{Lp}
 use Rattle.pami_lp.specs.Rules.{name_by}
 use Rattle.pami_lp.proofs.Gathered.{gathered, few_rows}
 
@@ -92,7 +83,9 @@ symbol_above b h =
     either (to_59 b) (nat_eq b 63) h (λ h.
     either (to_47 b) (nat_eq b 59) h (λ h.
     either (to_44 b) (nat_eq b 47) h (λ h.
-    either (to_41 b) (nat_eq b 44) h (least b 33 (nat_le b 41) (omega arith)) (equal b 44 (omega arith))) (equal b 47 (omega arith))) (equal b 59 (omega arith))) (equal b 63 (omega arith))) (equal b 64 (omega arith))) (equal b 95 (omega arith))) (equal b 96 (omega arith))) (least b 123 (nat_le b 126) (omega arith))
+    either (to_41 b) (nat_eq b 44) h (least b 33 (nat_le b 41) (omega arith)) (equal b 44 (omega arith)))
+    (equal b 47 (omega arith))) (equal b 59 (omega arith))) (equal b 63 (omega arith))) (equal b 64 (omega arith))) (equal b 95 (omega arith)))
+    (equal b 96 (omega arith))) (least b 123 (nat_le b 126) (omega arith))
 
 start_above : (b : ℕ) → starts_name b ≡ true → IsAbove b
 start_above b h = either (is_letter b) (is_symbol b) h (letter_above b) (symbol_above b)
@@ -107,7 +100,7 @@ bytes_above : (bs : List ℕ) → list_all is_name_byte bs ≡ true → AllByRec
 bytes_above [] h = tt
 bytes_above (b ∷ bs) h = (byte_above b (left_true _ _ h), bytes_above bs (right_true _ _ h))
 
-name_above : (text : List ℕ) → is_name text ≡ true → IsFileName text
+name_above : (text : List ℕ) → is_name text ≡ true → IsModelName text
 name_above [] h = absurd (true≢false (sym h))
 name_above (b ∷ bs) h = name_from b bs (start_above b (left_true _ _ h)) (All-from_recursion IsAbove bs (bytes_above bs (right_true _ _ h)))
 
@@ -133,7 +126,9 @@ class_named text first after h = by (Rattle.pami_lp_text.specs.Lexeme.is_number 
     sign false false false false false false = refl
 
     no_sign : is_named (sign_class text) ≡ false
-    no_sign = sign (is_word text (codes "<") || is_word text (codes "<=") || is_word text (codes "=<")) (is_word text (codes ">") || is_word text (codes ">=") || is_word text (codes "=>")) (is_word text (codes "="))
+    no_sign = sign (is_word text (codes "<") || is_word text (codes "<=") || is_word text (codes "=<"))
+        (is_word text (codes ">") || is_word text (codes ">=") || is_word text (codes "=>"))
+        (is_word text (codes "="))
         (is_word text (codes "+")) (is_word text (codes "-")) (is_word text (codes ":"))
 
     other : Class
@@ -146,13 +141,13 @@ class_named text first after h = by (Rattle.pami_lp_text.specs.Lexeme.is_number 
 
 -- an item of the class of names has a name for its text
 abbrev IsFine : Item → Type 0
-IsFine i = i.class ≡ classes.Name → IsFileName i.text
+IsFine i = i.class ≡ classes.Name → IsModelName i.text
 
 abbrev AreFine : List Item → Type 0
 AreFine items = AllByRecursion IsFine items
 
-item_fine : (t : Symbol) → (t.class ≡ classes.Name → IsFileName t.text) → IsFine (item_of t)
-item_fine t is h = subst (λ (c : Class). IsFileName (Rattle.pami_lp.specs.Grammar.said c t.text)) (sym h) (is h)
+item_fine : (t : Symbol) → (t.class ≡ classes.Name → IsModelName t.text) → IsFine (item_of t)
+item_fine t is h = subst (λ (c : Class). IsModelName (Rattle.pami_lp.specs.Grammar.said c t.text)) (sym h) (is h)
 
 words_fine : (ws : List Word) → AreFine (items_of (symbols ws))
 words_fine [] = tt
@@ -169,17 +164,17 @@ number_rest : (o : Option (List ℕ)) (rest : List Item) → AreFine (number_bef
 number_rest None rest h = h
 number_rest (Some text) rest h = h.1
 
-term_fine : (t : Term) (rest : List Item) → AreFine (term t rest) → IsFileName t.name × AreFine rest
+term_fine : (t : Term) (rest : List Item) → AreFine (term t rest) → IsModelName t.name × AreFine rest
 term_fine t rest h = let n = number_rest t.number _ (signs_rest t.turns _ h) in (n.0 refl, n.1)
 
-further_fine : (fs : List Further) (rest : List Item) → AreFine (further fs rest) → AreFileNames (map (λ (f : Further). f.term.name) fs) × AreFine rest
+further_fine : (fs : List Further) (rest : List Item) → AreFine (further fs rest) → AreModelNames (map (λ (f : Further). f.term.name) fs) × AreFine rest
 further_fine [] rest h = (tt, h)
 further_fine (f ∷ fs) rest h =
     let one = term_fine f.term (further fs rest) h.1 in
     let more = further_fine fs rest one.1 in
     ((one.0, more.0), more.1)
 
-terms_fine : (ts : Terms) (rest : List Item) → AreFine (terms ts rest) → AreFileNames (terms_names ts) × AreFine rest
+terms_fine : (ts : Terms) (rest : List Item) → AreFine (terms ts rest) → AreModelNames (terms_names ts) × AreFine rest
 terms_fine ts rest h =
     let one = term_fine ts.first (further ts.more rest) h in
     let more = further_fine ts.more rest one.1 in
@@ -190,13 +185,13 @@ value_rest v rest h = (signs_rest v.turns (size v.size ∷ rest) h).1
 
 abbrev IsLabel : Option (List ℕ) → Type 0
 IsLabel None = Unit {0}
-IsLabel (Some name) = IsFileName name
+IsLabel (Some name) = IsModelName name
 
 label_fine : (o : Option (List ℕ)) (rest : List Item) → AreFine (label o rest) → IsLabel o × AreFine rest
 label_fine None rest h = (tt, h)
 label_fine (Some name) rest h = (h.0 refl, h.1.1)
 
-side_fine : (s : Side) (rest : List Item) → AreFine (side s rest) → AreFileNames (side_names s) × AreFine rest
+side_fine : (s : Side) (rest : List Item) → AreFine (side s rest) → AreModelNames (side_names s) × AreFine rest
 side_fine (Right ts r v) rest h = let t = terms_fine ts _ h in (t.0, value_rest v rest t.1.1)
 side_fine (Left v r ts) rest h = terms_fine ts rest (value_rest v _ h).1
 side_fine (Both v w ts u) rest h = let t = terms_fine ts _ (value_rest v _ h).1 in (t.0, value_rest u rest t.1.1)
@@ -208,7 +203,7 @@ abbrev names_in : List Row → List (List ℕ)
 names_in rs = flat_map (λ (r : Row). side_names r.side) rs
 
 record RowsFine (rs : List Row) (rest : List Item) : Type 0 where
-  names : AreFileNames (names_in rs)
+  names : AreModelNames (names_in rs)
   labels : AreLabels rs
   behind : AreFine rest
 
@@ -220,21 +215,21 @@ rows_fine (r ∷ rs) rest h =
     let more = rows_fine rs rest s.1 in
     record { names = names_joined (side_names r.side) (names_in rs) s.0 more.names; labels = (l.0, more.labels); behind = more.behind }
 
-part_fine : (p : Part) (rest : List Item) → AreFine (part p rest) → AreFileNames (part_names p) × AreFine rest
+part_fine : (p : Part) (rest : List Item) → AreFine (part p rest) → AreModelNames (part_names p) × AreFine rest
 part_fine (Named t) rest h = let one = term_fine t rest h in ((one.0, tt), one.1)
 part_fine (Alone ts text) rest h = (tt, (signs_rest ts _ h).1)
 
 abbrev names_later : List Later → List (List ℕ)
 names_later ls = flat_map (λ (l : Later). part_names l.part) ls
 
-later_fine : (ls : List Later) (rest : List Item) → AreFine (later ls rest) → AreFileNames (names_later ls) × AreFine rest
+later_fine : (ls : List Later) (rest : List Item) → AreFine (later ls rest) → AreModelNames (names_later ls) × AreFine rest
 later_fine [] rest h = (tt, h)
 later_fine (l ∷ ls) rest h =
     let one = part_fine l.part (later ls rest) h.1 in
     let more = later_fine ls rest one.1 in
     (names_joined (part_names l.part) (names_later ls) one.0 more.0, more.1)
 
-goal_fine : (g : Goal) (rest : List Item) → AreFine (goal g rest) → AreFileNames (goal_names g) × AreFine rest
+goal_fine : (g : Goal) (rest : List Item) → AreFine (goal g rest) → AreModelNames (goal_names g) × AreFine rest
 goal_fine Nothing rest h = (tt, h)
 goal_fine (Parts p ls) rest h =
     let one = part_fine p (later ls rest) h in
@@ -245,22 +240,22 @@ rows_word_rest : (o : Option (List ℕ)) (rest : List Item) → AreFine (rows_wo
 rows_word_rest None rest h = h.1
 rows_word_rest (Some second) rest h = h.1.1
 
-bound_fine : (b : Bound) (rest : List Item) → AreFine (bound b rest) → IsFileName (Rattle.pami_lp.specs.Gather.bound_name b) × AreFine rest
+bound_fine : (b : Bound) (rest : List Item) → AreFine (bound b rest) → IsModelName (Rattle.pami_lp.specs.Gather.bound_name b) × AreFine rest
 bound_fine (Set name r v) rest h = (h.0 refl, value_rest v rest h.1.1)
 bound_fine (From v r name) rest h = let k = value_rest v _ h in (k.1.0 refl, k.1.1)
 bound_fine (Between v w name u) rest h = let k = value_rest v _ h in (k.1.0 refl, value_rest u rest k.1.1.1)
 bound_fine (Freed name) rest h = (h.0 refl, h.1.1)
 
-bounds_fine : (bs : List Bound) (rest : List Item) → AreFine (bounds bs rest) → AreFileNames (map Rattle.pami_lp.specs.Gather.bound_name bs)
+bounds_fine : (bs : List Bound) (rest : List Item) → AreFine (bounds bs rest) → AreModelNames (map Rattle.pami_lp.specs.Gather.bound_name bs)
 bounds_fine [] rest h = tt
 bounds_fine (b ∷ bs) rest h = let one = bound_fine b (bounds bs rest) h in (one.0, bounds_fine bs rest one.1)
 
-section_fine : (bs : Option (List Bound)) (rest : List Item) → AreFine (section bs rest) → AreFileNames (section_names bs)
+section_fine : (bs : Option (List Bound)) (rest : List Item) → AreFine (section bs rest) → AreModelNames (section_names bs)
 section_fine None rest h = tt
 section_fine (Some bs) rest h = bounds_fine bs rest h.1
 
 record FileFine (f : File) : Type 0 where
-  names : AreFileNames (file_names f)
+  names : AreModelNames (file_names f)
   labels : AreLabels f.rows
 
 file_fine : (f : File) (rest : List Item) → AreFine (file f rest) → FileFine f
@@ -275,11 +270,11 @@ file_fine f rest h =
 
 -- ---- names of a model
 
-once_fine : (names before : List (List ℕ)) → AreFileNames before → AreFileNames names → AreFileNames (fold with_name before names)
+once_fine : (names before : List (List ℕ)) → AreModelNames before → AreModelNames names → AreModelNames (fold with_name before names)
 once_fine [] before are more = are
 once_fine (n ∷ names) before are more = once_fine names (with_name before n) (by (is_some (place_of n before))) more.1
   where
-    by : (b : Bool) → AreFileNames (cond b before (before ++ n ∷ []))
+    by : (b : Bool) → AreModelNames (cond b before (before ++ n ∷ []))
     by true = are
     by false = names_joined before (n ∷ []) are (more.0, tt)
 
@@ -290,11 +285,11 @@ decimal_above = decimal_by_steps (λ n ds. AllByRecursion IsAbove ds) (λ n l. (
     more [] d h k = (k, tt)
     more (c ∷ ds) d h k = (h.0, more ds d h.1 k)
 
-name_fine : (k : ℕ) (o : Option (List ℕ)) → k ≤ 256 → IsLabel o → IsFileName (name_by k o)
+name_fine : (k : ℕ) (o : Option (List ℕ)) → k ≤ 256 → IsLabel o → IsModelName (name_by k o)
 name_fine k (Some name) few is = is
 name_fine k None few is = name_from 82 (decimal (k + 1)) (omega arith) (All-from_recursion IsAbove (decimal (k + 1)) (decimal_above (k + 1) (omega arith)))
 
-rows_named : (k : ℕ) (rs : List Row) → k + length rs ≤ 256 → AreLabels rs → AreFileNames (names_of_rows (rows_from k rs))
+rows_named : (k : ℕ) (rs : List Row) → k + length rs ≤ 256 → AreLabels rs → AreModelNames (names_of_rows (rows_from k rs))
 rows_named k [] few are = tt
 rows_named k (r ∷ rs) few are = (name_fine k r.label (omega arith) are.0, rows_named (k + 1) rs (omega arith) are.1)
 
@@ -302,16 +297,16 @@ rows_count : (k : ℕ) (rs : List Row) → length (rows_from k rs) ≡ length rs
 rows_count k [] = refl
 rows_count k (r ∷ rs) = let h : length (rows_from (k + 1) rs) ≡ length rs = rows_count (k + 1) rs in omega arith
 
-pub names_are_tokens : (bytes : List ℕ) (c : Contents) → Lp bytes c → HasFileNames c
-names_are_tokens bytes c is =
+pub names_are_unbroken : (bytes : List ℕ) (c : Contents) → Lp bytes c → HasModelNames c
+names_are_unbroken bytes c is =
     let fine : FileFine is.tree = file_fine is.tree is.rest (subst AreFine is.is (words_fine (text_words bytes))) in
     let g = gathered is.tree is.draft is.gives in
     let n : length is.draft.rows ≡ length is.tree.rows = ap length g.rows ∙ rows_count 0 is.tree.rows in
     let most : length is.draft.rows ≤ 256 = few_rows is.tree is.draft is.gives in
-    let rows : AreFileNames (names_of_rows is.draft.rows) =
-    subst (λ (rs : List ModelRow). AreFileNames (names_of_rows rs)) (sym g.rows) (rows_named 0 is.tree.rows (omega (arith, n, most)) fine.labels) in
-    let columns : AreFileNames (names_of_columns is.draft.columns) = subst AreFileNames (sym g.columns) (once_fine (file_names is.tree) [] tt fine.names) in
-    subst HasFileNames (sym is.contents) (record {
+    let rows : AreModelNames (names_of_rows is.draft.rows) =
+    subst (λ (rs : List ModelRow). AreModelNames (names_of_rows rs)) (sym g.rows) (rows_named 0 is.tree.rows (omega (arith, n, most)) fine.labels) in
+    let columns : AreModelNames (names_of_columns is.draft.columns) = subst AreModelNames (sym g.columns) (once_fine (file_names is.tree) [] tt fine.names) in
+    subst HasModelNames (sym is.contents) (record {
       rows = all_names (names_of_rows is.draft.rows) rows;
-      columns = subst (All IsFileName) (sym (finished_names is.draft.columns)) (all_names (names_of_columns is.draft.columns) columns);
+      columns = subst (All IsModelName) (sym (finished_names is.draft.columns)) (all_names (names_of_columns is.draft.columns) columns);
     })
