@@ -36,7 +36,7 @@ FOREIGN = set(
     bool f64 i64 i128 u8 u32 u64 u128 usize Box Copy Drop Eq Err From Iterator None Ok Option Result Self Some String Vec
     md py txt kb mb lp mps dev full null stdin stdout stderr
     glpk utils qsopt librust num rational checked check exact freemps clp noint tofile to_lp gunzip xbf
-    Binary Semi multiobjectives iron_ore
+    Binary Semi multiobjectives iron_ore venv install
     """.split()
 )
 

@@ -1,4 +1,6 @@
-"""Finds the built program: PAMI in the environment, or what the repository's `./pami` has built. Tests without it are skipped."""
+"""Finds the built program: PAMI in the environment, or what the repository's `./pami` has built. Tests without it are
+skipped.
+"""
 
 from __future__ import annotations
 

@@ -1,18 +1,22 @@
-"""What docs/FROM_YOUR_TOOL.md says of files: of texts that are read otherwise than meant or refused, and of what tools write.
+"""What docs/FROM_YOUR_TOOL.md says of files: of texts that are read otherwise than meant or refused, and of what tools
+write.
 
-The expectations are those of the page and of docs/FORMATS.md, worked out by hand. A tool that is missing is skipped.
+The expectations are those of the page and of docs/FORMATS.md, worked out by hand. A tool that is missing is skipped,
+and so is one of another version than the page speaks of.
 """
 
 from __future__ import annotations
 
 import gzip
+import importlib
 import shutil
 import subprocess
 from pathlib import Path
+from typing import Any
 
 import pytest
 
-SECONDS = 30
+SECONDS = 60
 
 
 def answer(program: str, path: Path, *words: str) -> list[str]:
@@ -70,17 +74,29 @@ READ = [
     ("comma.lp", "Minimize\n x\nst\n c: x >= 1,5\n + x >= 1\nEnd\n", ["x", ",5"], "1"),
     ("exponent.lp", "Minimize\n x\nst\n c: x >= 1D5\n + x >= 1\nEnd\n", ["x", "D5"], "1"),
     ("right.lp", "Maximize\n x\nst\n c: x <= 4 y\n + x >= 3\nEnd\n", ["x", "y"], "4"),
+    ("joined.lp", "Minimize\n x\nst\n 4 >= x\n - y >= 1\nEnd\n", ["x", "y"], "1"),
+    ("labelled.lp", "Minimize\n x\nst\n 4 >= x\n c: - y >= -1\nEnd\n", ["x", "y"], "0"),
     ("name.lp", "Minimize\n 3 e1\nst\n c: 2 e1 >= 1\nEnd\n", ["e1"], "3/2"),
     ("constant.lp", "Minimize\n 3e1 + x\nst\n c: 2 x >= 1\nEnd\n", ["x"], "61/2"),
     ("end.lp", "Minimize\n x + end\nst\n c: 2 x + end >= 1\nEnd\n", ["x", "end"], "1/2"),
     ("label.lp", "Minimize\n x\nst\nmin: x >= 1\nst: x >= 3\nEnd\n", ["x"], "3"),
-    ("freed.lp", "Minimize\n x + y\nst\n c: x - y >= 0\n d: y <= 9\nBounds\n x <= -3\n x free\n y free\nEnd\n", ["x", "y"], "end"),
+    (
+        "freed.lp",
+        "Minimize\n x + y\nst\n c: x - y >= 0\n d: y <= 9\nBounds\n x <= -3\n x free\n y free\nEnd\n",
+        ["x", "y"],
+        "end",
+    ),
     ("below.lp", "Minimize\n x\nst\n c: x + y >= -7\nBounds\n x <= -3\n y <= 1\nEnd\n", ["x", "y"], "-8"),
     ("below.mps", (MPS % ("1", "BOUNDS\n UP set x -3\n")).replace(" set row 1", " set row -7"), ["x"], "-7"),
     ("open.lp", "Minimize\n x\nst\n c: x >= -1e30\n d: x <= 1e20\nEnd\n", ["x"], "0"),
     ("signs.lp", "Minimize\n + -3 x\nst\n c: x <= 2\nEnd\n", ["x"], "-6"),
     ("comment.mps", "*SENSE:Maximize\n" + MPS % ("1", ""), ["x"], "1"),
-    ("two.mps", "NAME\nROWS\n N cost\n N other\n G row\nCOLUMNS\n x cost 1 row 1\n x other -9\nRHS\n s row 2\nENDATA\n", ["x"], "2"),
+    (
+        "two.mps",
+        "NAME\nROWS\n N cost\n N other\n G row\nCOLUMNS\n x cost 1 row 1\n x other -9\nRHS\n s row 2\nENDATA\n",
+        ["x"],
+        "2",
+    ),
 ]
 
 
@@ -106,10 +122,32 @@ def test_packed(program: str, tmp_path: Path) -> None:
     assert answer(program, path) == ["refused 1 byte"]
 
 
+# The versions that the page speaks of, and the words that print them.
+VERSIONS = {
+    "glpsol": ("Solver 5.0", "--version"),
+    "lp_solve": ("5.5.2.5", "-h"),
+    "cbc": ("2.10.8", "-quit"),
+    "clp": ("1.17.6", "-quit"),
+}
+MODULES = {"pulp": "2.6.0", "optlang": "1.5.2", "cvxopt": "1.3.0"}
+
+
 def run(*words: str, cwd: Path) -> None:
     if shutil.which(words[0]) is None:
         pytest.skip(f"{words[0]} is missing")
-    subprocess.run(words, cwd=cwd, capture_output=True, timeout=SECONDS, check=False)
+    version, word = VERSIONS[words[0]]
+    told = subprocess.run([words[0], word], cwd=cwd, stdin=subprocess.DEVNULL, capture_output=True, timeout=SECONDS)
+    if version not in (told.stdout + told.stderr).decode(errors="replace"):
+        pytest.skip(f"{words[0]} isn't of version {version}")
+    subprocess.run(words, cwd=cwd, stdin=subprocess.DEVNULL, capture_output=True, timeout=SECONDS, check=False)
+
+
+def module(name: str, part: str = "") -> Any:
+    """A module of Python, or a part of it, in the version that the page speaks of."""
+    whole = pytest.importorskip(name, reason=f"{name} is missing (Debian package python3-{name})")
+    if not whole.__version__.startswith(MODULES[name]):
+        pytest.skip(f"{name} isn't of version {MODULES[name]}")
+    return importlib.import_module(name + part)
 
 
 # max 3 x + 7.25 with x <= 7/2 by a row and a range -1 <= x - one <= 9: 10.5 + 7.25 = 71/4.
@@ -124,7 +162,17 @@ solve; end;
 def test_glpsol(program: str, tmp_path: Path) -> None:
     for name, constant in (("plain", "7.25"), ("kept", "7.25*one")):
         (tmp_path / (name + ".mod")).write_text(MATHPROG % constant)
-        run("glpsol", "--check", "--math", name + ".mod", "--wlp", name + ".lp", "--wfreemps", name + ".mps", cwd=tmp_path)
+        run(
+            "glpsol",
+            "--check",
+            "--math",
+            name + ".mod",
+            "--wlp",
+            name + ".lp",
+            "--wfreemps",
+            name + ".mps",
+            cwd=tmp_path,
+        )
     # The constant is a comment, and a range is a column more; as a column the constant is kept.
     assert "constant term = 7.25" in (tmp_path / "plain.lp").read_text()
     assert objective(answer(program, tmp_path / "plain.lp")) == "21/2"
@@ -141,7 +189,17 @@ def test_glpsol(program: str, tmp_path: Path) -> None:
 def test_lp_solve(program: str, tmp_path: Path) -> None:
     for name, goal in (("most", "max: 3x + 7.25;"), ("least", "min: 3x + 7.25;")):
         (tmp_path / (name + ".lp")).write_text(goal + "\nc: 2 x >= 1;\nd: x <= 3.5;\n")
-        run("lp_solve", "-S1", "-parse_only", name + ".lp", "-wfmps", name + ".mps", "-wmps", name + ".fixed.mps", cwd=tmp_path)
+        run(
+            "lp_solve",
+            "-S1",
+            "-parse_only",
+            name + ".lp",
+            "-wfmps",
+            name + ".mps",
+            "-wmps",
+            name + ".fixed.mps",
+            cwd=tmp_path,
+        )
     assert answer(program, tmp_path / "most.lp") == ["refused 1 syntax"]
     assert objective(answer(program, tmp_path / "most.mps")) == "71/4"
     # The other format negates the costs and not the constant; in a minimum the constant has the other sign.
@@ -189,13 +247,16 @@ def test_clp_has_no_lp(program: str, tmp_path: Path) -> None:
 
 
 def test_table(program: str, tmp_path: Path) -> None:
-    """The script on the page, and the table that it is shown with. By hand: energy by bread alone takes 7.2 of it, too much
-    fat; milk alone does both, 12 of it for 240."""
+    """The script on the page, and the table that it is shown with. By hand: energy by bread alone takes 7.2 of it, too
+    much fat; milk alone does both, 12 of it for 240.
+    """
     page = (Path(__file__).parents[2] / "docs" / "FROM_YOUR_TOOL.md").read_text()
     script = page.split("```python\n")[1].split("```")[0]
     shown = page.split("$ cat diet.csv\n")[1].split("    $ python3")[0]
     table = "".join(line.strip() + "\n" for line in shown.splitlines())
-    ran = subprocess.run(["python3", "-c", script], input=table.encode(), capture_output=True, timeout=SECONDS, check=True)
+    ran = subprocess.run(
+        ["python3", "-c", script], input=table.encode(), capture_output=True, timeout=SECONDS, check=True
+    )
     (tmp_path / "diet.lp").write_bytes(ran.stdout)
     lines = answer(program, tmp_path / "diet.lp")
     assert objective(lines) == "240"
@@ -203,7 +264,7 @@ def test_table(program: str, tmp_path: Path) -> None:
 
 
 def test_pulp(program: str, tmp_path: Path) -> None:
-    pulp = pytest.importorskip("pulp", reason="PuLP is missing (Debian package python3-pulp)")
+    pulp = module("pulp")
     for name in ("plain", "kept"):
         problem = pulp.LpProblem("model", pulp.LpMaximize)
         x, one = pulp.LpVariable("x[1]", 0), pulp.LpVariable("one", 1, 1)
@@ -223,7 +284,7 @@ def test_pulp(program: str, tmp_path: Path) -> None:
 
 
 def test_pulp_words(program: str, tmp_path: Path) -> None:
-    pulp = pytest.importorskip("pulp", reason="PuLP is missing (Debian package python3-pulp)")
+    pulp = module("pulp")
     problem = pulp.LpProblem("model", pulp.LpMinimize)
     problem += pulp.LpVariable("x", 0) + pulp.LpVariable("st", 0, 4) >= 1
     problem.writeLP(str(tmp_path / "model.lp"))
@@ -235,7 +296,7 @@ def test_pulp_words(program: str, tmp_path: Path) -> None:
 
 
 def test_optlang(program: str, tmp_path: Path) -> None:
-    glpk = pytest.importorskip("optlang.glpk_interface", reason="optlang is missing (Debian package python3-optlang)")
+    glpk = module("optlang", ".glpk_interface")
     model, x, y = glpk.Model(name="model"), glpk.Variable("x", lb=0), glpk.Variable("y", lb=0)
     model.add([glpk.Constraint(2 * x + y, ub=7, name="c"), glpk.Constraint(x - y, lb=-1, ub=9, name="w")])
     model.objective = glpk.Objective(3 * x + y + 7.25, direction="max")
@@ -247,7 +308,7 @@ def test_optlang(program: str, tmp_path: Path) -> None:
 
 
 def test_cvxopt(program: str, tmp_path: Path) -> None:
-    modeling = pytest.importorskip("cvxopt.modeling", reason="CVXOPT is missing (Debian package python3-cvxopt)")
+    modeling = module("cvxopt", ".modeling")
     x = modeling.variable(1, "x")
     modeling.op(3 * x + 7.25, [3 * x >= 1 / 3, x >= 0]).tofile(str(tmp_path / "model.mps"))
     lines = answer(program, tmp_path / "model.mps")

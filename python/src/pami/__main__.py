@@ -1,0 +1,71 @@
+"""python -m pami: shows answers, judges certificates, tells what contradicts. `python -m pami --help` has the words."""
+
+from __future__ import annotations
+
+import argparse
+import sys
+
+from .answer import Result, read_result
+from .errors import PamiError
+from .program import solve
+from .source import read_model, read_text
+from .table import table
+from .verify import verify
+
+# The statuses of `verify` are those of `pami check`.
+STATUSES = {"valid": 0, "invalid": 20, "unchecked": 21, "malformed": 22}
+
+
+def words() -> argparse.ArgumentParser:
+    parser = argparse.ArgumentParser(prog="python -m pami", description="Shows and judges the answers of pami.")
+    commands = parser.add_subparsers(dest="command", required=True)
+    show = commands.add_parser(
+        "show", help="a table of an answer: decimals, fractions, prices in the sense of the file"
+    )
+    json = commands.add_parser("json", help="the same as JSON")
+    for command in (show, json):
+        command.add_argument("file", metavar="FILE", help="the text of an answer, or a model, which is solved")
+        command.add_argument(
+            "--model", metavar="MODEL", help="the model of an answer's text: for its sense, and for what is infeasible"
+        )
+    show.add_argument("--digits", type=int, default=6, metavar="N", help="digits behind the point (6)")
+    judge = commands.add_parser(
+        "verify", help="judges a certificate as `pami check` does, with unbounded fractions, in plain Python"
+    )
+    judge.add_argument("file", metavar="FILE", help="the model")
+    judge.add_argument("certificate", metavar="CERT", help="the text with the certificate")
+    for command in (show, json, judge):
+        command.add_argument(
+            "--format", choices=("mps", "lp"), help="the format of the model, if its name doesn't say it"
+        )
+    for command in (show, json):
+        command.add_argument("--limit", type=int, metavar="K", help="how many pivots are allowed")
+        command.add_argument("--program", metavar="PATH", help="the program, if it isn't on the path nor named by PAMI")
+    return parser
+
+
+def result_of(given: argparse.Namespace) -> Result:
+    """The result in a text, or that of a model."""
+    text = read_text(given.file)
+    if text.startswith("pami "):
+        return read_result(text, read_model(given.model, given.format) if given.model is not None else None)
+    return solve(given.file, format=given.format, limit=given.limit, program=given.program)
+
+
+def main(arguments: list[str] | None = None) -> int:
+    given = words().parse_args(arguments)
+    try:
+        if given.command == "verify":
+            verdict = verify(given.file, given.certificate, format=given.format)
+            print(verdict)
+            return STATUSES[verdict.kind]
+        result = result_of(given)
+        print(result.to_json(indent=2) if given.command == "json" else table(result, max(given.digits, 0)))
+    except PamiError as error:
+        print(f"pami: {error}", file=sys.stderr)
+        return 1
+    return 0
+
+
+if __name__ == "__main__":
+    sys.exit(main())

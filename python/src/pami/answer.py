@@ -1,0 +1,425 @@
+"""The text that `pami solve` writes, read into a `Result`."""
+
+from __future__ import annotations
+
+import json
+import re
+from collections.abc import Mapping
+from dataclasses import dataclass, field
+from enum import StrEnum
+from fractions import Fraction
+from typing import Literal, NoReturn
+
+from .decimals import decimal
+from .errors import DualInfeasible, Infeasible, LimitReached, NotOptimal, OtherProgram, Overflow, TextCut, TextFault
+from .model import Model, Sense
+
+Letter = Literal["B", "L", "U", "Z"]
+LETTERS: dict[str, Letter] = {"B": "B", "L": "L", "U": "U", "Z": "Z"}
+NUMBER = re.compile(r"(?:0|-?[1-9][0-9]*)(?:/[1-9][0-9]*)?\Z")
+
+
+class Status(StrEnum):
+    """What a run came to."""
+
+    OPTIMAL = "optimal"
+    INFEASIBLE = "infeasible"
+    DUAL_INFEASIBLE = "dual-infeasible"
+    LIMIT = "limit"
+    OVERFLOW = "overflow"
+
+
+@dataclass(frozen=True)
+class Phase:
+    """The method begins phase 1 or 2."""
+
+    number: int
+
+
+@dataclass(frozen=True)
+class Major:
+    """Major `number` chose this place of the basis."""
+
+    number: int
+    mode: str
+    place: int
+
+
+@dataclass(frozen=True)
+class Flip:
+    """A variable went to its other bound."""
+
+    variable: str
+    to: str
+
+
+@dataclass(frozen=True)
+class Pivot:
+    """`leaving` left this place to its bound `to`, and `entering` took it; a unit of the bound costs `price`."""
+
+    number: int
+    place: int
+    leaving: str
+    to: str
+    entering: str
+    price: Fraction
+
+
+@dataclass(frozen=True)
+class NoneEnters:
+    """`variable`, at this place, is out of its bounds, and none can enter for it."""
+
+    place: int
+    variable: str
+
+
+@dataclass(frozen=True)
+class Rollback:
+    """Of this major nothing is kept, as an operation didn't fit."""
+
+    major: int
+    place: str
+    op: str
+    left: Fraction
+    right: Fraction
+
+
+Event = Phase | Major | Flip | Pivot | NoneEnters | Rollback
+
+
+@dataclass(frozen=True)
+class Column:
+    """A column of an optimal answer. `reduced_cost` is as minimised, `own_reduced_cost` in the sense of the file: how
+    much the objective grows with a unit more of it. `stand` is its letter in the basis.
+    """
+
+    name: str
+    value: Fraction
+    reduced_cost: Fraction
+    own_reduced_cost: Fraction
+    stand: Letter
+
+    def decimal(self, digits: int = 6) -> str:
+        return decimal(self.value, digits)
+
+
+@dataclass(frozen=True)
+class Row:
+    """A row of an optimal answer. `dual` is as minimised, `own_dual` in the sense of the file: how much the objective
+    grows with a unit more on the right-hand side. `stand` is its letter in the basis.
+    """
+
+    name: str
+    value: Fraction
+    dual: Fraction
+    own_dual: Fraction
+    stand: Letter
+
+    def decimal(self, digits: int = 6) -> str:
+        return decimal(self.value, digits)
+
+
+@dataclass(frozen=True)
+class Basis:
+    """A letter for each column and for each row: `B` in the basis, `L` and `U` at a bound, `Z` without bounds, at 0."""
+
+    columns: str
+    rows: str
+
+
+@dataclass(frozen=True)
+class Conflict:
+    """A row or column of an explanation: `factor` times its `bound`, the lower one above 0 and the upper one below."""
+
+    variable: str
+    factor: Fraction
+    bound: Fraction
+
+    def __str__(self) -> str:
+        return f"{self.variable} {'>=' if self.factor > 0 else '<='} {self.bound}"
+
+
+@dataclass(frozen=True)
+class Explanation:
+    """Why no plan keeps all rows. The rows, each with its factor, add up to at least `due`. The columns' own bounds let
+    the same sum be `reached` at most, which is less.
+    """
+
+    rows: tuple[Conflict, ...]
+    columns: tuple[Conflict, ...]
+    due: Fraction
+    reached: Fraction
+
+    def __str__(self) -> str:
+        lines = ["These rows can't be kept together:", *(f"  {row}, times {row.factor}" for row in self.rows)]
+        lines.append(
+            f"They add up to at least {self.due}, but the bounds of columns let the sum be {self.reached} at most."
+        )
+        if self.columns:
+            lines.append("The bounds that matter:")
+            lines += [f"  {column}, with {-column.factor} for each in the sum" for column in self.columns]
+        return "\n".join(lines)
+
+
+@dataclass(frozen=True)
+class Result:
+    """What a run came to. `model` is what this package's own reader read of the file, or None where only a text was
+    read; `text` is what the program wrote, so `check` takes the result as a certificate.
+
+    - `objective`: of the file, summed here where the text says `wide`; None where there is no plan, or no model to sum
+      it with.
+    - `columns`, `rows`: of an optimal answer, in the order of the file; empty for others.
+    - `multipliers`: of an infeasible answer, a number for each row.
+    - `direction`: of a dual infeasible answer, a number for each column and row, as `x:bread` and `r:energy`.
+    - `basis`: of an optimal answer, and where the limit was reached.
+    """
+
+    status: Status
+    sense: Sense
+    sizes: tuple[int, int, int]
+    objective: Fraction | None
+    columns: tuple[Column, ...]
+    rows: tuple[Row, ...]
+    multipliers: Mapping[str, Fraction]
+    direction: Mapping[str, Fraction]
+    basis: Basis | None
+    events: tuple[Event, ...]
+    problem: NotOptimal | None
+    text: str = field(repr=False)
+    model: Model | None = field(repr=False, compare=False)
+
+    @property
+    def is_optimal(self) -> bool:
+        return self.status is Status.OPTIMAL
+
+    @property
+    def pivots(self) -> int:
+        return sum(isinstance(event, Pivot) for event in self.events)
+
+    def optimal(self) -> Result:
+        """The result itself where it is optimal; else the error that names what it is."""
+        if self.problem is not None:
+            raise self.problem
+        return self
+
+    def __getitem__(self, name: str) -> Fraction:
+        """The value of a column by its name."""
+        for column in self.columns:
+            if column.name == name:
+                return column.value
+        raise KeyError(name)
+
+    def explain_infeasible(self) -> Explanation:
+        """The rows and bounds that contradict each other, by Farkas' lemma."""
+        if self.status is not Status.INFEASIBLE:
+            raise ValueError(f"this result is {self.status}, so there is nothing infeasible to explain")
+        if self.model is None:
+            raise ValueError("the bounds are those of the model: give it to read_result too")
+        model = self.model
+        factors = [self.multipliers[row] for row in model.rows]
+        rows = [
+            Conflict(f"r:{name}", factor, _bound(low, high, factor))
+            for name, factor, low, high in zip(model.rows, factors, model.row_low, model.row_high, strict=True)
+            if factor
+        ]
+        columns = []
+        for name, entries, low, high in zip(model.columns, model.entries, model.low, model.high, strict=True):
+            factor = -sum((factors[row] * entry for row, entry in entries.items()), Fraction(0))
+            if factor:
+                columns.append(Conflict(f"x:{name}", factor, _bound(low, high, factor)))
+        due = sum((it.factor * it.bound for it in rows), Fraction(0))
+        reached = -sum((it.factor * it.bound for it in columns), Fraction(0))
+        return Explanation(tuple(rows), tuple(columns), due, reached)
+
+    def decimals(self, digits: int = 6) -> dict[str, str]:
+        """The value of each column as a decimal; see `pami.decimal`."""
+        return {column.name: column.decimal(digits) for column in self.columns}
+
+    def to_json(self, indent: int | None = None) -> str:
+        """All but the model and the text as JSON. Fractions are texts, as `-1/4`."""
+        told: dict[str, object] = {
+            "status": self.status.value,
+            "sense": self.sense,
+            "sizes": dict(zip(("rows", "columns", "entries"), self.sizes, strict=True)),
+            "objective": None if self.objective is None else str(self.objective),
+            "columns": [_told(column) for column in self.columns],
+            "rows": [_told(row) for row in self.rows],
+            "multipliers": {name: str(value) for name, value in self.multipliers.items()},
+            "direction": {name: str(value) for name, value in self.direction.items()},
+            "basis": None if self.basis is None else _told(self.basis),
+            "events": [_told(event, event=type(event).__name__) for event in self.events],
+            "problem": None if self.problem is None else str(self.problem),
+        }
+        return json.dumps(told, indent=indent)
+
+
+def _told(record: object, **more: object) -> dict[str, object]:
+    return more | {name: str(it) if isinstance(it, Fraction) else it for name, it in vars(record).items()}
+
+
+def _bound(low: Fraction | None, high: Fraction | None, factor: Fraction) -> Fraction:
+    bound = low if factor > 0 else high
+    if bound is None:
+        raise ValueError("the certificate doesn't hold: a factor stands at a bound that isn't there")
+    return bound
+
+
+def number(word: str) -> Fraction | None:
+    """A number as the program prints it, or None."""
+    if NUMBER.match(word) is None:
+        return None
+    value = Fraction(word)
+    return value if str(value) == word else None
+
+
+class _Lines:
+    """The lines of a text. A text that ends within one is cut, and so is one that ends where another is due."""
+
+    def __init__(self, text: str) -> None:
+        self.lines = text.split("\n")
+        self.is_whole = not self.lines[-1]
+        if self.is_whole:
+            self.lines.pop()
+        self.at = 0
+
+    def next(self) -> list[str]:
+        if self.at >= len(self.lines) or (self.at == len(self.lines) - 1 and not self.is_whole):
+            raise TextCut(
+                f"the text ends early, in line {self.at + 1}: it was cut, or its run was stopped. Solve again."
+            )
+        self.at += 1
+        return self.lines[self.at - 1].removesuffix("\r").split(" ")
+
+    def fault(self) -> NoReturn:
+        raise TextFault(self.at, self.lines[self.at - 1])
+
+    def number(self, word: str) -> Fraction:
+        value = number(word)
+        return self.fault() if value is None else value
+
+    def count(self, word: str) -> int:
+        return int(word) if re.fullmatch("[0-9]+", word) else self.fault()
+
+    def due(self, words: list[str], first: str, count: int) -> None:
+        if words[0] != first or len(words) != count:
+            self.fault()
+
+
+def read_result(text: str, model: Model | None = None) -> Result:
+    """The result that a text of `pami solve` tells. Without the model the sense is taken for a minimum, so the numbers
+    in the sense of the file are those of a minimum, and a `wide` objective isn't known.
+    """
+    lines = _Lines(text)
+    if lines.next() != ["pami", "1"]:
+        raise OtherProgram(
+            "the text doesn't begin with the line `pami 1`: it is none of an answer, or of another version of pami"
+        )
+    words = lines.next()
+    lines.due(words, "model", 4)
+    sizes = (lines.count(words[1]), lines.count(words[2]), lines.count(words[3]))
+    events = []
+    words = lines.next()
+    while words[0] != "answer":
+        events.append(_event(lines, words))
+        words = lines.next()
+    return _Answer(lines, sizes, tuple(events), model).read(words, text)
+
+
+def _event(lines: _Lines, words: list[str]) -> Event:
+    count, value = lines.count, lines.number
+    match words:
+        case ["phase", phase]:
+            return Phase(count(phase))
+        case ["major", major, mode, place]:
+            return Major(count(major), mode, count(place))
+        case ["flip", variable, to]:
+            return Flip(variable, to)
+        case ["pivot", pivot, place, leaving, to, entering, price]:
+            return Pivot(count(pivot), count(place), leaving, to, entering, value(price))
+        case ["none", place, variable]:
+            return NoneEnters(count(place), variable)
+        case ["rollback", major, spot, op, left, right]:
+            return Rollback(count(major), spot, op, value(left), value(right))
+    lines.fault()
+
+
+@dataclass
+class _Answer:
+    """The part of a text behind its events."""
+
+    lines: _Lines
+    sizes: tuple[int, int, int]
+    events: tuple[Event, ...]
+    model: Model | None
+
+    def read(self, words: list[str], text: str) -> Result:
+        lines, wide = self.lines, False
+        problem: NotOptimal | None = None
+        objective: Fraction | None = None
+        named: dict[str, list[Fraction]] = {}
+        match words:
+            case ["answer", "optimal"]:
+                status = Status.OPTIMAL
+                lines.due(lines.next(), "certificate", 3)
+                told = lines.next()
+                lines.due(told, "objective", 2)
+                wide = told[1] == "wide"
+                objective = None if wide else lines.number(told[1])
+                named = self.numbers(True, 2)
+            case ["answer", "infeasible"]:
+                status, problem = Status.INFEASIBLE, Infeasible()
+                lines.due(lines.next(), "certificate", 3)
+                named = self.numbers(False, 1)
+            case ["answer", "dual-infeasible"]:
+                status, problem = Status.DUAL_INFEASIBLE, DualInfeasible()
+                lines.due(lines.next(), "certificate", 3)
+                named = self.numbers(True, 1)
+            case ["answer", "limit", count]:
+                status, problem = Status.LIMIT, LimitReached(lines.count(count))
+            case ["answer", "overflow", place, op, left, right]:
+                status, problem = Status.OVERFLOW, Overflow(place, op, lines.number(left), lines.number(right))
+            case _:
+                lines.fault()
+        basis = self.basis() if status in (Status.OPTIMAL, Status.LIMIT) else None
+        sense: Sense = self.model.sense if self.model is not None else "min"
+        columns, rows = self.table(named, basis, sense) if status is Status.OPTIMAL and basis is not None else ((), ())
+        if wide and self.model is not None:
+            objective = self.model.objective([column.value for column in columns])
+        single = {name: values[0] for name, values in named.items() if len(values) == 1}
+        multipliers = {name[2:]: value for name, value in single.items()} if status is Status.INFEASIBLE else {}
+        return Result(
+            status, sense, self.sizes, objective, columns, rows, multipliers,
+            single if status is Status.DUAL_INFEASIBLE else {}, basis, self.events, problem, text, self.model,
+        )  # fmt: skip
+
+    def numbers(self, has_columns: bool, count: int) -> dict[str, list[Fraction]]:
+        """The numbers of a certificate by variable, up to its line `end`."""
+        rows, columns, _ = self.sizes
+        named = {}
+        for letter in ["x"] * columns * has_columns + ["r"] * rows:
+            words = self.lines.next()
+            self.lines.due(words, letter, 2 + count)
+            named[f"{letter}:{words[1]}"] = [self.lines.number(word) for word in words[2:]]
+        self.lines.due(self.lines.next(), "end", 1)
+        return named
+
+    def basis(self) -> Basis:
+        words = self.lines.next()
+        self.lines.due(words, "basis", 3)
+        columns, rows = (word.strip("-") for word in words[1:])
+        if (len(rows), len(columns)) != self.sizes[:2] or set(columns + rows) - LETTERS.keys():
+            self.lines.fault()
+        return Basis(columns, rows)
+
+    def table(
+        self, named: dict[str, list[Fraction]], basis: Basis, sense: Sense
+    ) -> tuple[tuple[Column, ...], tuple[Row, ...]]:
+        sign = 1 if sense == "min" else -1
+        columns, rows = [], []
+        for letter, (variable, (value, price)) in zip(basis.columns + basis.rows, named.items(), strict=True):
+            name, stand = variable[2:], LETTERS[letter]
+            if variable.startswith("x:"):
+                columns.append(Column(name, value, price, sign * price, stand))
+            else:
+                rows.append(Row(name, value, price, sign * price, stand))
+        return tuple(columns), tuple(rows)
