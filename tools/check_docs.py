@@ -61,9 +61,9 @@ COMMENT = re.compile(r"//.*|(?:^|\s)-- .*", re.M)
 
 
 def tracked():
-    """The repository's files, without what the toolchain makes."""
+    """The repository's files, without what the toolchain and Python's tools make."""
     for at, folders, files in os.walk(TOP):
-        folders[:] = [it for it in folders if it not in (".git", "out", "__pycache__")]
+        folders[:] = [it for it in folders if it not in (".git", "out", "__pycache__", ".pytest_cache", ".mypy_cache")]
         for name in files:
             yield os.path.relpath(f"{at}/{name}", TOP)
 
