@@ -4,12 +4,15 @@ from __future__ import annotations
 
 import argparse
 import sys
+from pathlib import Path
 
 from .answer import Result, read_result
+from .certify import certify
 from .errors import PamiError
 from .program import solve
-from .source import read_model, read_text
+from .source import ENCODING, ERRORS, read_model, read_text
 from .table import table
+from .verdict import Verdict
 from .verify import verify
 
 # The statuses of `verify` are those of `pami check`.
@@ -34,12 +37,19 @@ def words() -> argparse.ArgumentParser:
     )
     judge.add_argument("file", metavar="FILE", help="the model")
     judge.add_argument("certificate", metavar="CERT", help="the text with the certificate")
-    for command in (show, json, judge):
+    other = commands.add_parser(
+        "certify", help="has another exact solver solve a model, and `pami check` judge its answer"
+    )
+    other.add_argument("file", metavar="MODEL", help="the model")
+    other.add_argument("--with", dest="solver", choices=("esolver",), default="esolver", help="QSopt_ex (esolver)")
+    other.add_argument("-o", dest="out", metavar="CERT", help="where the certificate is written")
+    for command in (show, json, judge, other):
         command.add_argument(
             "--format", choices=("mps", "lp"), help="the format of the model, if its name doesn't say it"
         )
     for command in (show, json):
         command.add_argument("--limit", type=int, metavar="K", help="how many pivots are allowed")
+    for command in (show, json, other):
         command.add_argument("--program", metavar="PATH", help="the program, if it isn't on the path nor named by PAMI")
     return parser
 
@@ -52,11 +62,22 @@ def result_of(given: argparse.Namespace) -> Result:
     return solve(given.file, format=given.format, limit=given.limit, program=given.program)
 
 
+def judged(given: argparse.Namespace) -> Verdict:
+    """The verdict on a certificate that is given, or on the one that another solver's answer makes."""
+    if given.command == "verify":
+        return verify(given.file, given.certificate, format=given.format)
+    found = certify(given.file, format=given.format, solver=given.solver, program=given.program)
+    if given.out is not None:
+        Path(given.out).write_bytes(found.text.encode(ENCODING, ERRORS))
+    print(f"{given.solver}: {found.claim}")
+    return found.verdict
+
+
 def main(arguments: list[str] | None = None) -> int:
     given = words().parse_args(arguments)
     try:
-        if given.command == "verify":
-            verdict = verify(given.file, given.certificate, format=given.format)
+        if given.command in ("verify", "certify"):
+            verdict = judged(given)
             print(verdict)
             return STATUSES[verdict.kind]
         result = result_of(given)

@@ -1,7 +1,9 @@
-"""Fractions as decimals, for people."""
+"""Fractions as decimals: rounded for people, and exact for files."""
 
 from __future__ import annotations
 
+import math
+from collections.abc import Iterable
 from fractions import Fraction
 
 
@@ -15,3 +17,21 @@ def decimal(value: Fraction, digits: int = 6) -> str:
     shown = text[:-digits] + "." + text[-digits:] if digits else text
     shown = shown.rstrip("0").rstrip(".") if digits else shown
     return ("" if whole == scaled else "~") + ("-" if value < 0 and whole else "") + shown
+
+
+def factor_of(values: Iterable[Fraction]) -> int:
+    """The least number that makes finite decimals of all these fractions."""
+    factor = math.lcm(*(value.denominator for value in values))
+    for prime in (2, 5):
+        while factor % prime == 0:
+            factor //= prime
+    return factor
+
+
+def decimal_text(value: Fraction) -> str:
+    """A finite decimal, exactly."""
+    places = 0
+    while (value * 10**places).denominator != 1:
+        places += 1
+    whole = str(int(value * 10**places))
+    return f"{whole}e-{places}" if places else whole

@@ -17,6 +17,10 @@ class OtherProgram(PamiError):
     """What was called isn't a pami that writes format 1 of the texts."""
 
 
+class OtherSolver(PamiError):
+    """Another solver, whose answer was to be certified, has none."""
+
+
 class TookTooLong(PamiError):
     """The program didn't end within `timeout` seconds, and was stopped."""
 

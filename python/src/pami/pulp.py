@@ -9,7 +9,7 @@ from __future__ import annotations
 import math
 import operator
 import os
-from collections.abc import Callable, Iterable
+from collections.abc import Callable
 from dataclasses import dataclass, field
 from decimal import Decimal
 from fractions import Fraction
@@ -21,6 +21,7 @@ from pulp import constants
 from pulp.apis.core import LpSolver_CMD, PulpSolverError
 
 from .answer import Result, Status
+from .decimals import decimal_text, factor_of
 from .errors import PamiError, ProgramMissing, TookTooLong
 from .program import find_program, solve
 
@@ -50,24 +51,6 @@ def exact(value: Any) -> Fraction:
 def is_infinite(value: Any) -> bool:
     """Whether a bound isn't there."""
     return value is None or (isinstance(value, float) and math.isinf(value)) or abs(exact(value)) >= 10**20
-
-
-def factor_of(values: Iterable[Fraction]) -> int:
-    """The least number that makes finite decimals of all these fractions."""
-    factor = math.lcm(*(value.denominator for value in values))
-    for prime in (2, 5):
-        while factor % prime == 0:
-            factor //= prime
-    return factor
-
-
-def decimal_text(value: Fraction) -> str:
-    """A finite decimal, exactly."""
-    places = 0
-    while (value * 10**places).denominator != 1:
-        places += 1
-    whole = str(int(value * 10**places))
-    return f"{whole}e-{places}" if places else whole
 
 
 @dataclass

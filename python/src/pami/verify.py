@@ -173,12 +173,13 @@ def _line(words: list[str], first: str, name: str | None, many: int, bits: int |
     if first == "objective" and words[-1] == "wide":
         return [None]
     found = [number(word) for word in words[-many:]]
-    if any(it is None or (bits is not None and not _fits(it, bits)) for it in found):
+    if any(it is None or (bits is not None and not fits(it, bits)) for it in found):
         return "number"
     return found
 
 
-def _fits(value: Fraction, bits: int) -> bool:
+def fits(value: Fraction, bits: int) -> bool:
+    """Whether numerator and denominator have so many binary digits at most."""
     return max(abs(value.numerator), value.denominator).bit_length() <= bits
 
 
