@@ -3,7 +3,10 @@
 from __future__ import annotations
 
 import os
+import pickle
 import stat
+from concurrent.futures import ProcessPoolExecutor
+from fractions import Fraction
 from pathlib import Path
 
 import pami
@@ -94,6 +97,7 @@ def test_every_front_of_a_text_is_cut() -> None:
         ("x x 1/2 0", "x x 2/4 0"),
         ("x x 1/2 0", "x x 0.5 0"),
         ("x x 1/2 0", "x x 1/2"),
+        ("model 1 1 1", "model 2 1 1"),
         ("answer optimal", "answer perhaps"),
         ("basis B L", "basis BB L"),
         ("basis B L", "basis B Q"),
@@ -147,3 +151,42 @@ def test_names_that_look_like_options(program: str, tmp_path: Path, monkeypatch:
     monkeypatch.chdir(tmp_path)
     Path("--limit").write_text("NAME\nROWS\n N cost\n G row\nCOLUMNS\n x cost 1 row 1\nRHS\n s row 3\nENDATA\n")
     assert pami.solve("--limit", program=program).objective == 3
+
+
+def test_other_model() -> None:
+    own = "Minimize\n x\nst\n c: 2 x >= 1\nEnd\n"
+    assert pami.read_result(OPTIMAL, pami.read_model(own))["x"] == Fraction(1, 2)
+    for other in (own.replace("x", "y"), own.replace("c:", "d:"), own.replace("2 x", "2 x + y")):
+        with pytest.raises(pami.OtherModel):
+            pami.read_result(OPTIMAL, pami.read_model(other))
+    with pytest.raises(pami.TextFault):
+        pami.read_result(OPTIMAL.replace("model 1 1 1", "model 2 1 1").replace("r c 1 1/2\n", "r c 1 1/2\n" * 2))
+
+
+@pytest.mark.parametrize(
+    "error",
+    [
+        pami.ProgramMissing("it isn't there"),
+        pami.Refused("model.mps", 7, "words", " x cost"),
+        pami.IntegerModel("model.lp", 7, "integer", "General"),
+        pami.MissingFile("model.mps", "there is no such file"),
+        pami.Overflow("factor", "div", Fraction(1, 3), Fraction(10)),
+        pami.LimitReached(7),
+        pami.TextFault(3, "what"),
+        pami.Infeasible(),
+    ],
+)
+def test_errors_go_between_processes(error: pami.PamiError) -> None:
+    other = pickle.loads(pickle.dumps(error))
+    assert type(other) is type(error)
+    assert str(other) == str(error)
+    assert vars(other) == vars(error)
+
+
+def test_results_come_from_other_processes(program: str, examples: Path, monkeypatch: pytest.MonkeyPatch) -> None:
+    monkeypatch.setenv("PAMI", program)
+    names = ["diet.mps", "bakery.mps", "exchange.lp", "wide.mps"]
+    with ProcessPoolExecutor(2) as pool:
+        results = list(pool.map(pami.solve, [examples / name for name in names]))
+    assert [result.status.value for result in results] == ["optimal", "infeasible", "dual-infeasible", "overflow"]
+    assert results[1].explain_infeasible().due == 19

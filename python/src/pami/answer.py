@@ -11,7 +11,17 @@ from fractions import Fraction
 from typing import Literal, NoReturn
 
 from .decimals import decimal
-from .errors import DualInfeasible, Infeasible, LimitReached, NotOptimal, OtherProgram, Overflow, TextCut, TextFault
+from .errors import (
+    DualInfeasible,
+    Infeasible,
+    LimitReached,
+    NotOptimal,
+    OtherModel,
+    OtherProgram,
+    Overflow,
+    TextCut,
+    TextFault,
+)
 from .model import Model, Sense
 
 Letter = Literal["B", "L", "U", "Z"]
@@ -317,6 +327,8 @@ def read_result(text: str, model: Model | None = None) -> Result:
     words = lines.next()
     lines.due(words, "model", 4)
     sizes = (lines.count(words[1]), lines.count(words[2]), lines.count(words[3]))
+    if model is not None and sizes != model.sizes():
+        raise OtherModel
     events = []
     words = lines.next()
     while words[0] != "answer":
@@ -353,27 +365,20 @@ class _Answer:
     model: Model | None
 
     def read(self, words: list[str], text: str) -> Result:
-        lines, wide = self.lines, False
+        """The result of a text whose line `answer` has these words."""
+        lines, objective = self.lines, ""
         problem: NotOptimal | None = None
-        objective: Fraction | None = None
         named: dict[str, list[Fraction]] = {}
         match words:
             case ["answer", "optimal"]:
                 status = Status.OPTIMAL
-                lines.due(lines.next(), "certificate", 3)
-                told = lines.next()
-                lines.due(told, "objective", 2)
-                wide = told[1] == "wide"
-                objective = None if wide else lines.number(told[1])
-                named = self.numbers(True, 2)
+                objective, named = self.optimal()
             case ["answer", "infeasible"]:
                 status, problem = Status.INFEASIBLE, Infeasible()
-                lines.due(lines.next(), "certificate", 3)
-                named = self.numbers(False, 1)
+                named = self.numbers(has_columns=False, count=1)
             case ["answer", "dual-infeasible"]:
                 status, problem = Status.DUAL_INFEASIBLE, DualInfeasible()
-                lines.due(lines.next(), "certificate", 3)
-                named = self.numbers(True, 1)
+                named = self.numbers(has_columns=True, count=1)
             case ["answer", "limit", count]:
                 status, problem = Status.LIMIT, LimitReached(lines.count(count))
             case ["answer", "overflow", place, op, left, right]:
@@ -381,26 +386,61 @@ class _Answer:
             case _:
                 lines.fault()
         basis = self.basis() if status in (Status.OPTIMAL, Status.LIMIT) else None
-        sense: Sense = self.model.sense if self.model is not None else "min"
-        columns, rows = self.table(named, basis, sense) if status is Status.OPTIMAL and basis is not None else ((), ())
-        if wide and self.model is not None:
-            objective = self.model.objective([column.value for column in columns])
-        single = {name: values[0] for name, values in named.items() if len(values) == 1}
-        multipliers = {name[2:]: value for name, value in single.items()} if status is Status.INFEASIBLE else {}
+        columns, rows = self.table(named, basis) if status is Status.OPTIMAL and basis is not None else ((), ())
+        single = {name: values[0] for name, values in named.items()}
         return Result(
-            status, sense, self.sizes, objective, columns, rows, multipliers,
-            single if status is Status.DUAL_INFEASIBLE else {}, basis, self.events, problem, text, self.model,
-        )  # fmt: skip
+            status=status,
+            sense=self.sense,
+            sizes=self.sizes,
+            objective=self.objective(objective, columns) if objective else None,
+            columns=columns,
+            rows=rows,
+            multipliers={name[2:]: it for name, it in single.items()} if status is Status.INFEASIBLE else {},
+            direction=single if status is Status.DUAL_INFEASIBLE else {},
+            basis=basis,
+            events=self.events,
+            problem=problem,
+            text=text,
+            model=self.model,
+        )
 
-    def numbers(self, has_columns: bool, count: int) -> dict[str, list[Fraction]]:
+    @property
+    def sense(self) -> Sense:
+        return self.model.sense if self.model is not None else "min"
+
+    def optimal(self) -> tuple[str, dict[str, list[Fraction]]]:
+        """The word behind `objective`, and the numbers by variable."""
+        self.lines.due(self.lines.next(), "certificate", 3)
+        words = self.lines.next()
+        self.lines.due(words, "objective", 2)
+        if words[1] != "wide":
+            self.lines.number(words[1])
+        return words[1], self.numbers(has_columns=True, count=2, has_head=False)
+
+    def objective(self, word: str, columns: tuple[Column, ...]) -> Fraction | None:
+        """The objective that is told, or the sum where it is `wide` and the model is there."""
+        if word != "wide":
+            return number(word)
+        return self.model.objective([column.value for column in columns]) if self.model is not None else None
+
+    def numbers(self, *, has_columns: bool, count: int, has_head: bool = True) -> dict[str, list[Fraction]]:
         """The numbers of a certificate by variable, up to its line `end`."""
         rows, columns, _ = self.sizes
-        named = {}
+        named: dict[str, list[Fraction]] = {}
+        if has_head:
+            self.lines.due(self.lines.next(), "certificate", 3)
         for letter in ["x"] * columns * has_columns + ["r"] * rows:
             words = self.lines.next()
             self.lines.due(words, letter, 2 + count)
-            named[f"{letter}:{words[1]}"] = [self.lines.number(word) for word in words[2:]]
+            name = f"{letter}:{words[1]}"
+            if name in named:
+                self.lines.fault()
+            named[name] = [self.lines.number(word) for word in words[2:]]
         self.lines.due(self.lines.next(), "end", 1)
+        if self.model is not None:
+            due = [f"x:{name}" for name in self.model.columns] if has_columns else []
+            if list(named) != due + [f"r:{name}" for name in self.model.rows]:
+                raise OtherModel
         return named
 
     def basis(self) -> Basis:
@@ -411,10 +451,9 @@ class _Answer:
             self.lines.fault()
         return Basis(columns, rows)
 
-    def table(
-        self, named: dict[str, list[Fraction]], basis: Basis, sense: Sense
-    ) -> tuple[tuple[Column, ...], tuple[Row, ...]]:
-        sign = 1 if sense == "min" else -1
+    def table(self, named: dict[str, list[Fraction]], basis: Basis) -> tuple[tuple[Column, ...], tuple[Row, ...]]:
+        """The columns and rows of an optimal answer."""
+        sign = 1 if self.sense == "min" else -1
         columns, rows = [], []
         for letter, (variable, (value, price)) in zip(basis.columns + basis.rows, named.items(), strict=True):
             name, stand = variable[2:], LETTERS[letter]

@@ -8,6 +8,17 @@ from fractions import Fraction
 class PamiError(Exception):
     """Every error of this package. Its text says what happened and what to do."""
 
+    def __reduce__(self) -> tuple[object, ...]:
+        # An error goes between processes by its text and its fields, whatever its kind is made from.
+        return _error_of, (type(self), str(self), vars(self))
+
+
+def _error_of(kind: type[PamiError], text: str, fields: dict[str, object]) -> PamiError:
+    error = kind.__new__(kind)
+    error.args = (text,)
+    vars(error).update(fields)
+    return error
+
 
 class ProgramMissing(PamiError):
     """There is no program to call, or it can't be run or built."""
@@ -79,6 +90,15 @@ class TextFault(PamiError):
             f"line {line} of the text is none of an answer: {source!r}. Was the file changed, or is it another one?"
         )
         self.line, self.source = line, source
+
+
+class OtherModel(PamiError):
+    """A text that should be the answer to a model has other names or sizes."""
+
+    def __init__(self) -> None:
+        super().__init__(
+            "the text isn't the answer to this model, as it has other rows, columns or entries. Solve again."
+        )
 
 
 class ModelFault(PamiError):

@@ -63,6 +63,10 @@ class Model:
         self.row_high.append(high)
         return len(self.rows) - 1
 
+    def sizes(self) -> tuple[int, int, int]:
+        """How many rows, columns and entries other than 0 there are."""
+        return len(self.rows), len(self.columns), sum(len(entries) for entries in self.entries)
+
     def row_values(self, values: list[Fraction]) -> list[Fraction]:
         """What each row adds up to, given a number for each column."""
         sums = [Fraction(0)] * len(self.rows)

@@ -152,7 +152,9 @@ def _call(words: list[str], program: Source | None, timeout: float | None) -> tu
 def _error(status: int, text: str, words: list[str], files: list[_File]) -> PamiError:
     """The error of a status that is no answer."""
     if status == 2 and text == "bad words\n":
-        return BadWords(f"the program doesn't take the words {words}. A limit is a whole number from 0 to 1000000.")
+        return BadWords(
+            f"the program doesn't take the words {words}: a limit is from 0 to 1000000, and names are UTF-8 texts"
+        )
     found = REFUSED.match(text)
     if status == 3 and found is not None:
         return _refusal(files[0], int(found[1]), found[2], found[3] or "")

@@ -2,7 +2,7 @@
 
 from __future__ import annotations
 
-from collections.abc import Iterable
+from collections.abc import Sequence
 from fractions import Fraction
 
 from .answer import Result, Status
@@ -18,23 +18,18 @@ def table(result: Result, digits: int = 6) -> str:
     """
     parts = [_head(result, digits)]
     if result.is_optimal:
-        parts.append(_columns(("column", "value", "", "reduced cost", "", "stands"), (
-            (it.name, *_both(it.value, digits), *_both(it.own_reduced_cost, digits), it.stand) for it in result.columns
-        )))  # fmt: skip
-        parts.append(_columns(("row", "value", "", "dual", "", "stands"), (
-            (it.name, *_both(it.value, digits), *_both(it.own_dual, digits), it.stand) for it in result.rows
-        )))  # fmt: skip
+        columns = [(it.name, it.value, it.own_reduced_cost, it.stand) for it in result.columns]
+        rows = [(it.name, it.value, it.own_dual, it.stand) for it in result.rows]
+        for kind, price, lines in (("column", "reduced cost", columns), ("row", "dual", rows)):
+            told = [(name, *_both(value, digits), *_both(cost, digits), stand) for name, value, cost, stand in lines]
+            parts.append(_columns([(kind, "value", "", price, "", "stands"), *told]))
         parts.append(f"Prices are {SENSES[result.sense]}. {LETTERS}")
-    elif result.direction:
-        parts.append(_columns(("direction", "change", ""), (
-            (name, *_both(value, digits)) for name, value in result.direction.items() if value
-        )))  # fmt: skip
     elif result.status is Status.INFEASIBLE and result.model is not None:
         parts.append(str(result.explain_infeasible()))
-    elif result.multipliers:
-        parts.append(_columns(("row", "multiplier", ""), (
-            (name, *_both(value, digits)) for name, value in result.multipliers.items() if value
-        )))  # fmt: skip
+    elif result.direction or result.multipliers:
+        head = ("direction", "change", "") if result.direction else ("row", "multiplier", "")
+        numbers = {**result.direction, **result.multipliers}
+        parts.append(_columns([head, *((name, *_both(it, digits)) for name, it in numbers.items() if it)]))
     return "\n\n".join(parts)
 
 
@@ -56,14 +51,11 @@ def _both(value: Fraction, digits: int) -> tuple[str, str]:
     return decimal(value, digits), "" if value.denominator == 1 else str(value)
 
 
-def _columns(head: tuple[str, ...], lines: Iterable[tuple[str, ...]]) -> str:
+def _columns(lines: Sequence[tuple[str, ...]]) -> str:
     """Lines with their words under one another: names to the left, all else to the right."""
-    words = [head, *lines]
-    widths = [max(len(line[at]) for line in words) for at in range(len(head))]
-    return "\n".join(
-        "  ".join(
-            word.ljust(width) if not at else word.rjust(width)
-            for at, (word, width) in enumerate(zip(line, widths, strict=True))
-        ).rstrip()
-        for line in words
-    )
+    widths = [max(map(len, words)) for words in zip(*lines, strict=True)]
+    shown = []
+    for name, *words in lines:
+        right = [word.rjust(width) for word, width in zip(words, widths[1:], strict=True)]
+        shown.append("  ".join([name.ljust(widths[0]), *right]).rstrip())
+    return "\n".join(shown)
