@@ -11,6 +11,7 @@ import gzip
 import importlib
 import shutil
 import subprocess
+import sys
 from pathlib import Path
 from typing import Any
 
@@ -255,7 +256,7 @@ def test_table(program: str, tmp_path: Path) -> None:
     shown = page.split("$ cat diet.csv\n")[1].split("    $ python3")[0]
     table = "".join(line.strip() + "\n" for line in shown.splitlines())
     ran = subprocess.run(
-        ["python3", "-c", script], input=table.encode(), capture_output=True, timeout=SECONDS, check=True
+        [sys.executable, "-c", script], input=table.encode(), capture_output=True, timeout=SECONDS, check=True
     )
     (tmp_path / "diet.lp").write_bytes(ran.stdout)
     lines = answer(program, tmp_path / "diet.lp")
