@@ -60,7 +60,8 @@ use Rattle.pami_vec.specs.declared.change.Change.{Change}
 use Rattle.pami_vec.specs.declared.change.Change.TheVariants.{Shifted}
 use Rattle.pami_major.specs.declared.choose.LeavingRow.{LeavingRow}
 use Rattle.pami_vec.specs.Changes.{changed}
-use Rattle.pami_major.specs.Exchange.{flip_at, flips_by, length_by, values_by}
+use Rattle.pami_minor.specs.Flips.{flip_at, flips_by, length_by}
+use Rattle.pami_major.specs.Exchange.{values_by}
 use Rattle.pami_major.specs.Leaving.{bounds_at_places}
 use Rattle.pami_major.specs.Ready.{form_of}
 use Rattle.pami_major.specs.Solving.{Found, Stepped, Behind, at_spot, at_place, then_more, changes_from}
@@ -68,7 +69,8 @@ use Rattle.pami_major.specs.Tried.{AreListsOf, bounds_of, leaving_at, bound_of, 
 use Rattle.pami_major.proofs.Majors.{front_refused, front_fits, takes_step, fresh_behind, first_of, new_history}
 use Rattle.pami_major.proofs.Sliced.{Fits, sliced_fit, sliced_stop}
 use Rattle.pami_major.proofs.Laid.{matrix_is, basis_columns_are, column_is, column_is_fresh}
-use Rattle.pami_major.proofs.Stepped.{flips_tied, rows_length, rows_value, gathered, step_is_length, change_at_place, values_tied}
+use Rattle.pami_minor.proofs.StepScripts.{flips_tied, rows_length, rows_value, step_is_length}
+use Rattle.pami_major.proofs.StepValues.{gathered, change_at_place, values_tied}
 use Rattle.pami_major.proofs.Fresh.{HasRowEntries, entry_turned, values_behind_are, reduced_behind_are}
 use Rattle.pami_major.proofs.Takes.{spot_ok, place_ok}
 use Rattle.pami_major.proofs.Ready.{Kept, lists_of, places_of}

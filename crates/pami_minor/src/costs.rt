@@ -72,8 +72,8 @@ fn slice_costs(
     Ok(kept)
 }
 
-/// Puts costs in at their places.
-fn put_costs(reduced: &mut [Frac], costs: &[Entry])
+/// Puts costs in at their places; both go by variable.
+pub fn put_costs(reduced: &mut [Frac], costs: &[Entry])
     requires { All (λ (e : TheEntry). e.place < length reduced.old) costs.now }
     ensures { reduced.new ≡ put_all costs.now reduced.old }
 {

@@ -68,13 +68,14 @@ fn add_flips(
     Ok(())
 }
 
-/// What the flips of these variables change in each of so many rows, zeros among them.
+/// What the flips of these variables change in each of so many rows, zeros among them: for each, by rising variable, its
+/// change times its column. Columns, stands and widths go by variable, a column and what is answered by row.
 ///
 /// # Errors
 ///
 /// `Named` exactly where an operation doesn't fit: the first such, the rows of each column ascending. `OutOfMemory` where
 /// memory runs out.
-fn flip_changes(
+pub fn flip_changes(
     alloc: Global,
     columns: &[SpVec],
     stands: &[Stand],
@@ -134,7 +135,7 @@ pub(crate) fn flip_column(
 /// # Errors
 ///
 /// `Refused` exactly where an operation doesn't fit: the first such.
-pub(crate) fn step_length(
+pub fn step_length(
     rho: &SpVec,
     flips: &SpVec,
     value: Frac,

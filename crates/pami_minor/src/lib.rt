@@ -3,6 +3,7 @@
 //! Stands on `pami_deferral`, whose laws say that what is kept of the remaining rows may be brought up to date pivot by
 //! pivot, and on `pami_price`, `pami_bfrt` and `pami_devex` for what a step reads. The layers above may rely on each call
 //! giving what its task gives at the basis that the batch has reached, or the first operation of its script that doesn't fit.
+//! A major of one row takes from here what the flips of its step change, and the step's length.
 #![tactic(auto)]
 
 mod behind;
@@ -20,6 +21,8 @@ mod shift;
 mod turns;
 mod walk;
 
+pub use costs::put_costs;
+pub use flips::{flip_changes, step_length};
 pub use minor::Minor;
 pub use reach::reach_at;
 pub use row::{Reached, Remaining, RowPick};
