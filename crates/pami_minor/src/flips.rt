@@ -68,14 +68,13 @@ fn add_flips(
     Ok(())
 }
 
-/// What the flips of these variables change in each of so many rows, zeros among them: for each, by rising variable, its
-/// change times its column. Columns, stands and widths go by variable, a column and what is answered by row.
+/// What the flips of these variables change in each of so many rows, zeros among them.
 ///
 /// # Errors
 ///
 /// `Named` exactly where an operation doesn't fit: the first such, the rows of each column ascending. `OutOfMemory` where
 /// memory runs out.
-pub fn flip_changes(
+fn flip_changes(
     alloc: Global,
     columns: &[SpVec],
     stands: &[Stand],
@@ -104,14 +103,14 @@ pub fn flip_changes(
     }
 }
 
-/// What the flips of these variables change in each of so many rows: for each, by rising variable, its change times its
-/// column.
+/// What the flips of these variables change, by row: for each, by rising variable, its change times its column. Stands go
+/// by variable.
 ///
 /// # Errors
 ///
 /// `Named` exactly where an operation doesn't fit: the first such, the rows of each column ascending. `OutOfMemory` where
 /// memory runs out.
-pub(crate) fn flip_column(
+pub fn flip_column(
     alloc: Global,
     form: &Form,
     stands: &[Stand],

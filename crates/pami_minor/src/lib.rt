@@ -22,7 +22,7 @@ mod turns;
 mod walk;
 
 pub use costs::put_costs;
-pub use flips::{flip_changes, step_length};
+pub use flips::{flip_column, step_length};
 pub use minor::Minor;
 pub use reach::reach_at;
 pub use row::{Reached, Remaining, RowPick};
