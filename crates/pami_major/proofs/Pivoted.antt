@@ -1,8 +1,7 @@
 -- What is worked out behind a ratio walk, against the scripts of a major: it is refused where the first of them is, and else
 -- it is what is solved behind the step.
 use Rattle.std.proofs.Common.{◌≡◌, ℕ, zero, suc, ◌+◌, ◌/◌, ◌<◌, List, [], ◌∷◌, ◌++◌, map, length, get_or, set, refl, sym, ap, ◌∙◌, subst, arith, Bool, true, false, not, cond, nat_eq, Option, None, Some, Result, Ok, Err}
-use Rattle.std.specs.List.{filter, range_with_len}
-use Rattle.std.proofs.lemmas.List.{length-replicate, get_or-map, get_or_default}
+use Rattle.std.proofs.lemmas.List.{get_or_default}
 use Rattle.pami_algebra.specs.Fraction.{Fraction}
 use Rattle.pami_algebra.specs.Operations.{neg_f}
 use Rattle.pami_algebra.proofs.Field.{neg_nil_f}
@@ -29,9 +28,9 @@ use Rattle.pami_theory.specs.declared.words.Stand.{Stand}
 use Rattle.pami_theory.specs.declared.words.Stand.TheVariants.{Basic, Lower, Upper, Zero}
 use Rattle.pami_theory.specs.Basis.{Basis, head_at, stand_at, StandsAt, IsBasis, basis_column}
 use Rattle.pami_theory.specs.Fresh.{Fresh, IsFresh, row_at, column_at, value_at_place, standing_value}
-use Rattle.pami_theory.specs.Violation.{passed_bound, value_or_zero, width}
+use Rattle.pami_theory.specs.Violation.{passed_bound, value_or_zero}
 use Rattle.pami_theory.specs.Ratio.{Leaving, Entering, row_entry, turned_entry, toward}
-use Rattle.pami_theory.specs.Step.{Step, step_at, TakesStep, basis_after, is_among, change_by, flip_change, flips_change, leaving_at as leaving_by}
+use Rattle.pami_theory.specs.Step.{Step, step_at, TakesStep, basis_after, flips_change, leaving_at as leaving_by}
 use Rattle.pami_theory.specs.Choice.{InfeasibleRow}
 use Rattle.pami_theory.proofs.Solved.{only_fresh}
 use Rattle.pami_theory.proofs.Steps.{step_exchanges}
@@ -60,20 +59,22 @@ use Rattle.pami_vec.specs.declared.change.Change.{Change}
 use Rattle.pami_vec.specs.declared.change.Change.TheVariants.{Shifted}
 use Rattle.pami_major.specs.declared.choose.LeavingRow.{LeavingRow}
 use Rattle.pami_vec.specs.Changes.{changed}
-use Rattle.pami_minor.specs.Flips.{flip_at, flips_by, length_by}
+use Rattle.pami_minor.specs.Flips.{flip_at, flips_by, ascending_to, length_by}
+use Rattle.pami_minor.specs.Walked.{bounds_at}
 use Rattle.pami_major.specs.Exchange.{values_by}
 use Rattle.pami_major.specs.Leaving.{bounds_at_places}
 use Rattle.pami_major.specs.Ready.{form_of}
 use Rattle.pami_major.specs.Solving.{Found, Stepped, Behind, at_spot, at_place, then_more, changes_from}
-use Rattle.pami_major.specs.Tried.{AreListsOf, bounds_of, leaving_at, bound_of, stepped_by, solved_by}
+use Rattle.pami_major.specs.Tried.{AreListsOf, leaving_at, bound_of, stepped_by, solved_by}
 use Rattle.pami_major.proofs.Majors.{front_refused, front_fits, takes_step, fresh_behind, first_of, new_history}
 use Rattle.pami_major.proofs.Sliced.{Fits, sliced_fit, sliced_stop}
 use Rattle.pami_major.proofs.Laid.{matrix_is, basis_columns_are, column_is, column_is_fresh}
-use Rattle.pami_minor.proofs.StepScripts.{flips_tied, rows_length, rows_value, step_is_length}
+use Rattle.pami_minor.proofs.StepScripts.{rows_length, rows_value, step_is_length}
+use Rattle.pami_minor.proofs.WalkedRow.{Kept, flips_are as flips_at_basis}
 use Rattle.pami_major.proofs.StepValues.{gathered, change_at_place, values_tied}
 use Rattle.pami_major.proofs.Fresh.{HasRowEntries, entry_turned, values_behind_are, reduced_behind_are}
 use Rattle.pami_major.proofs.Takes.{spot_ok, place_ok}
-use Rattle.pami_major.proofs.Ready.{Kept, lists_of, places_of}
+use Rattle.pami_major.proofs.Ready.{lists_of, places_of}
 use Rattle.pami_major.proofs.Tries.{IsTried, IsFound, walk_state, leaving_of, step_of, tasks_of_pivot, RefusedSo}
 
 -- ---- outcomes against scripts
@@ -301,7 +302,7 @@ standing_same l stands.Upper value h n = ap value_or_zero h
 standing_same l stands.Zero value h n = sym h.2
 
 entering_is : (form : Form) (st : State) (s : Fresh) (row : LeavingRow) (w : Found) (e : Entering) → IsStep form st s row w e
-    → standing_value (bounds_of form e.variable) (get_or st.stands e.variable stands.Basic) ≡ get s.values e.variable
+    → standing_value (bounds_at form e.variable) (get_or st.stands e.variable stands.Basic) ≡ get s.values e.variable
 entering_is form st s row w e h =
     let f = form_of form in
     let b = basis_of st in
@@ -325,18 +326,8 @@ pivot_is form st s row w e h =
     ∙ ap (λ c. cond c (row_entry (form_of form) (row_at s row.place) e.variable) zero_f) (nonbasic_by (stand_at (basis_of st) e.variable) (enters_nonbasic form st s row w e h))
 
 -- ---- the flips and the step length
-change_is : (form : Form) (st : State) (v : ℕ) → Kept form → AreListsOf form st → v < length form.columns → flip_at st.stands form.widths v ≡ flip_change (form_of form) (basis_of st) v
-change_is form st v k lists l =
-    let n = k.form.as_many_bounds in
-    let m = lists.stands in
-    let wide : get_or form.widths v None ≡ width (limits (form_of form) v) =
-    ap (λ (ws : List (Option Fraction)). get_or ws v None) k.wide
-    ∙ get_or-map (λ x. width x) form.bounds v (record { low = None; high = None }) None (omega arith) in
-    ap (λ x. change_by x (value_or_zero (get_or form.widths v None))) (sym (stand_is st v (omega arith)))
-    ∙ ap (λ x. change_by (stand_at (basis_of st) v) (value_or_zero x)) wide
-
 abbrev flips_from : Form → State → Found → Entering → Result (List Fraction) Refused
-flips_from form st w e = flips_by form.columns (flip_at st.stands form.widths) (filter (λ v. is_among v e.flips) (range_with_len 0 (length form.columns))) (zeros (length w.rho))
+flips_from form st w e = flips_by form.columns (flip_at st.stands form.widths) (ascending_to (length form.columns) e.flips) (zeros (length w.rho))
 
 abbrev length_from : Form → State → LeavingRow → Found → Entering → List Fraction → Result Fraction Refused
 length_from form st row w e flips = length_by w.rho flips (get st.values row.place) (bound_of form st row) (at w.alpha e.variable)
@@ -344,15 +335,8 @@ length_from form st row w e flips = length_by w.rho flips (get st.values row.pla
 flips_are : (form : Form) (st : State) (s : Fresh) (row : LeavingRow) (w : Found) (e : Entering) → IsStep form st s row w e
     → flips_from form st w e ≡ flips_script (form_of form) (basis_of st) (ascending (form_of form) e.flips) (zeros (form_of form).rows)
 flips_are form st s row w e h =
-    let f = form_of form in
-    let b = basis_of st in
-    let n = count_is form h.kept in
-    let change = flip_at st.stands form.widths in
-    ap (λ m. flips_by form.columns change (filter (λ v. is_among v e.flips) (range_with_len 0 (length form.columns))) (zeros m)) (row_long form st s row w e h)
-    ∙ ap (λ m. flips_by form.columns change (filter (λ v. is_among v e.flips) (range_with_len 0 m)) (zeros f.rows)) (sym n)
-    ∙ flips_tied f b form.columns change f.rows (λ v. is_among v e.flips) (variables f) 0 (zeros f.rows) (length-replicate f.rows zero_f)
-    (λ v l. change_is form st v h.kept h.lists (omega arith))
-    (λ v i l m. sym (coefficient_is form.columns form.bounds form.costs v i h.kept.form (omega arith) m))
+    ap (λ m. flips_by form.columns (flip_at st.stands form.widths) (ascending_to (length form.columns) e.flips) (zeros m)) (row_long form st s row w e h ∙ sym h.kept.tall)
+    ∙ flips_at_basis form (basis_of st) e.flips h.kept h.basis
 
 length_is : (form : Form) (st : State) (s : Fresh) (row : LeavingRow) (w : Found) (e : Entering) (flips : List Fraction) → IsStep form st s row w e
     → flips_script (form_of form) (basis_of st) (ascending (form_of form) e.flips) (zeros (form_of form).rows) ≡ Ok flips
@@ -523,7 +507,7 @@ flips_refusal form st h s row chosen w e flips k g =
 
 abbrev values_from : Form → State → LeavingRow → Entering → List Fraction → List Fraction → Result (List Fraction) Refused
 values_from form st row e moved solved =
-    values_by st.values moved solved (standing_value (bounds_of form e.variable) (get_or st.stands e.variable stands.Basic)) (bound_of form st row) row.place
+    values_by st.values moved solved (standing_value (bounds_at form e.variable) (get_or st.stands e.variable stands.Basic)) (bound_of form st row) row.place
 
 values_are : (form : Form) (st : State) (h : Option History) (s : Fresh) (row : LeavingRow) (chosen : InfeasibleRow) (w : Found) (e : Entering) (flips moved solved : List Fraction) → IsStep form st s row w e → HasFlips form st e flips
     → forward_script w.steps [] flips ≡ Ok moved → solved ≡ column_at s e.variable
@@ -536,7 +520,7 @@ values_are form st h s row chosen w e flips moved solved k g i j =
     (λ p l. change_at_place f r m (get moved) p refl k.fresh (flips_solved form st s row w e flips moved k g i) l)
     ∙ ap (λ x. values_by st.values moved x (entering_value m) (leaving_bound f m) row.place) (sym j)
     ∙ ap (λ x. values_by st.values moved solved x (leaving_bound f m) row.place) (sym (entering_is form st s row w e k))
-    ∙ ap (λ x. values_by st.values moved solved (standing_value (bounds_of form e.variable) (get_or st.stands e.variable stands.Basic)) x row.place) (sym (bound_is form st s row w e k))
+    ∙ ap (λ x. values_by st.values moved solved (standing_value (bounds_at form e.variable) (get_or st.stands e.variable stands.Basic)) x row.place) (sym (bound_is form st s row w e k))
 
 behind_told : (form : Form) (st : State) (h : Option History) (s : Fresh) (row : LeavingRow) (chosen : InfeasibleRow) (w : Found) (e : Entering) (step : Stepped) → IsStep form st s row w e → stepped_by form st row w e ≡ Ok step
     → Tells (solved_by form st row w e step)
@@ -618,7 +602,7 @@ values_known : (form : Form) (st : State) (s next : Fresh) (row : LeavingRow) (w
 values_known form st s next row w e step behind k g a fresh =
     let f = form_of form in
     let b = basis_of st in
-    let entering = standing_value (bounds_of form e.variable) (get_or st.stands e.variable stands.Basic) in
+    let entering = standing_value (bounds_at form e.variable) (get_or st.stands e.variable stands.Basic) in
     values_behind_are f b s row.place row.violation (step_of st row e) next st.values a.moved entering (bound_of form st row) behind.values k.takes fresh
     (record {
       by_place = k.places.places;

@@ -47,7 +47,7 @@ use Rattle.pami_major.specs.declared.walk.Turned.{Turned}
 use Rattle.pami_major.specs.declared.walk.Turned.TheVariants as turns
 use Rattle.pami_method.proofs.WalkExists.{has_walk}
 use Rattle.pami_major.proofs.Laid.{head_known}
-use Rattle.pami_major.proofs.Ready.{Kept}
+use Rattle.pami_minor.proofs.WalkedRow.{Kept}
 
 -- ---- whether a major is due
 -- what is read at a place, whatever stands past the end

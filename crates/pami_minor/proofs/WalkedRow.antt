@@ -45,7 +45,7 @@ use Rattle.pami_minor.specs.Steps.{form_of, IsStepOf, IsStepFor, AreWalked, Foll
 use Rattle.pami_minor.proofs.StepScripts.{flips_tied, rows_length, rows_value, step_is_length}
 
 -- ---- the lists of the walk
-entries_are : (f : theory.Form) (b : Basis) (l : Leaving) → AreRowEntries f b l (nonzero_entries (row_entry f l.row) (all_nonbasic f b))
+pub entries_are : (f : theory.Form) (b : Basis) (l : Leaving) → AreRowEntries f b l (nonzero_entries (row_entry f l.row) (all_nonbasic f b))
 entries_are f b l =
     let z : 0 + variables f ≡ variables f = omega arith in
     record {
@@ -62,7 +62,7 @@ widths_are form v k l =
     ap (λ ws. get_or ws v None) k.wide
     ∙ get_or-map (λ b. outside.width b) form.bounds v (record { low = None; high = None }) None l
 
-table_is : (form : Form) (b : Basis) (s : Fresh) (l : Leaving) → Kept form → IsBasis (form_of form) b → l.reduced ≡ s.reduced
+pub table_is : (form : Form) (b : Basis) (s : Fresh) (l : Leaving) → Kept form → IsBasis (form_of form) b → l.reduced ≡ s.reduced
     → IsTable (form_of form) b l (table_of form b.stands s.reduced)
 table_is form b s l k is e =
     let n : variables (form_of form) ≡ length form.columns = variables_are form.columns form.bounds form.costs k.form in
@@ -192,7 +192,7 @@ outcome_flips form b s row e slope (Ok changes) h r w c =
     outcome_length form b s row e slope changes
     (length_by (row_at s row.place) changes row.value (bound_of form row) (at (entries_at form b s row) e.variable)) h r w c same
 
-flips_are : (form : Form) (b : Basis) (vs : List ℕ) → Kept form → IsBasis (form_of form) b
+pub flips_are : (form : Form) (b : Basis) (vs : List ℕ) → Kept form → IsBasis (form_of form) b
     → flips_by form.columns (flip_at b.stands form.widths) (ascending_to (length form.columns) vs) (zeros form.rows)
     ≡ flips_script (form_of form) b (ascending (form_of form) vs) (zeros (form_of form).rows)
 flips_are form b vs k is =
