@@ -1,0 +1,132 @@
+"""Man pages, the completion for bash, and the packages of `packaging/deb.sh`. What needs a tool that isn't there is
+skipped.
+"""
+
+from __future__ import annotations
+
+import os
+import shutil
+import subprocess
+import tarfile
+from pathlib import Path
+
+import pytest
+from conftest import TOP
+
+PAGES = ["pami.1", "pami-certificate.5"]
+
+
+def _need(*tools: str) -> None:
+    for tool in tools:
+        if shutil.which(tool) is None:
+            pytest.skip(f"{tool} isn't installed")
+
+
+def _output(words: list[str | Path], **more: str) -> str:
+    environment = {**os.environ, **more}
+    ran = subprocess.run(words, env=environment, stdout=subprocess.PIPE, text=True, timeout=60, check=True)
+    return ran.stdout
+
+
+@pytest.mark.parametrize("page", PAGES)
+def test_man_page(page: str) -> None:
+    _need("scdoc")
+    with open(TOP / "man" / f"{page}.scd", encoding="utf-8") as source:
+        ran = subprocess.run(["scdoc"], stdin=source, capture_output=True, text=True, timeout=60, check=False)
+    assert (ran.returncode, ran.stderr) == (0, "")
+    name, section = page.split(".")
+    assert f'.TH "{name}" "{section}"' in ran.stdout
+
+
+def _completed(*words: str) -> list[str]:
+    """What is offered for the last word, in the folder of the examples."""
+    script = """
+        . "$0"
+        COMP_WORDS=("$@")
+        COMP_CWORD=$(($# - 1))
+        _pami
+        printf '%s\\n' "${COMPREPLY[@]}"
+    """
+    file = TOP / "packaging" / "pami.bash-completion"
+    ran = subprocess.run(
+        ["bash", "-c", script, file, *words],
+        cwd=TOP / "examples",
+        capture_output=True,
+        text=True,
+        timeout=60,
+        check=True,
+    )
+    assert ran.stderr == ""
+    return ran.stdout.split()
+
+
+@pytest.mark.parametrize(
+    ("words", "due"),
+    [
+        (["pami", ""], ["solve", "check"]),
+        (["./pami", "s"], ["solve"]),
+        (["pami", "solve", "di"], ["diet.mps", "dispatch.mps"]),
+        (["pami", "check", "diet.mps", "dear"], ["dear_diet.txt"]),
+        (["pami", "solve", "-"], ["--format", "--limit"]),
+        (["pami", "check", "--"], ["--format"]),
+        (["pami", "solve", "--limit", "5", "-"], ["--format"]),
+        (["pami", "solve", "--format", "=", "lp", "--"], ["--limit"]),
+        (["pami", "solve", "--format", ""], ["mps", "lp"]),
+        (["pami", "solve", "--format", "="], ["mps", "lp"]),
+        (["pami", "solve", "--format", "=", "m"], ["mps"]),
+        (["pami", "solve", "--limit", "1"], []),
+        (["pami", "solve", "--", "fa"], ["farm.lp"]),
+        (["pami", "solve", "--", "--l"], []),
+    ],
+)
+def test_completion(words: list[str], due: list[str]) -> None:
+    _need("bash")
+    assert _completed(*words) == due
+
+
+def _packed(kind: str, program: str, folder: Path) -> Path:
+    folder.mkdir()
+    script = TOP / "packaging" / "deb.sh"
+    told = _output([script, kind, program, folder], DEBEMAIL="packer@example.org", VERSION="7")
+    return Path(told.removesuffix("\n"))
+
+
+def _has_all(usr: Path, program: str, examples: Path) -> None:
+    ran = [
+        subprocess.run([it, "solve", examples / "diet.mps"], capture_output=True, timeout=60, check=False)
+        for it in (str(usr / "bin" / "pami"), program)
+    ]
+    assert ran[0].returncode == ran[1].returncode == 0
+    assert ran[0].stdout == ran[1].stdout
+    for page in PAGES:
+        assert (usr / "share" / "man" / f"man{page[-1]}" / f"{page}.gz").exists()
+    assert (usr / "share" / "bash-completion" / "completions" / "pami").exists()
+    assert (usr / "share" / "doc" / "pami" / "docs" / "FORMATS.md").exists()
+
+
+def test_deb(program: str, examples: Path, tmp_path: Path) -> None:
+    _need("scdoc", "strip", "objdump", "dpkg-deb")
+    package = _packed("deb", program, tmp_path / "one")
+    assert package.read_bytes() == _packed("deb", program, tmp_path / "two").read_bytes()
+    assert _output(["dpkg-deb", "-f", package, "Package", "Version"]) == "Package: pami\nVersion: 7\n"
+    _output(["dpkg-deb", "-x", package, tmp_path / "root"])
+    _has_all(tmp_path / "root" / "usr", program, examples)
+
+
+def test_tarball(program: str, examples: Path, tmp_path: Path) -> None:
+    _need("scdoc", "strip")
+    package = _packed("tarball", program, tmp_path / "one")
+    assert package.read_bytes() == _packed("tarball", program, tmp_path / "two").read_bytes()
+    with tarfile.open(package) as archive:
+        archive.extractall(tmp_path)
+    _has_all(tmp_path / package.name.removesuffix(".tar.gz"), program, examples)
+
+
+def test_packing_without_program(tmp_path: Path) -> None:
+    _need("scdoc", "strip")
+    script = TOP / "packaging" / "deb.sh"
+    ran = subprocess.run(
+        [script, "tarball", tmp_path / "none", tmp_path], capture_output=True, text=True, timeout=60, check=False
+    )
+    assert (ran.returncode, ran.stdout) == (1, "")
+    assert f"there is no program at {tmp_path}/none" in ran.stderr
