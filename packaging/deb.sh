@@ -48,17 +48,18 @@ put_packed() {
 put_files() {
     local page doc=$1/share/doc/pami
     install -d "$1/bin" "$1/share/man/man1" "$1/share/man/man5" "$1/share/bash-completion/completions"
-    install -d "$doc/docs" "$doc/examples"
+    install -d "$doc/docs" "$doc/examples/many"
     install -m 755 "$program" "$1/bin/pami"
     strip --remove-section=.comment --remove-section=.note "$1/bin/pami"
     for page in pami.1 pami-certificate.5; do
         scdoc <"$top/man/$page.scd" | put_packed "$1/share/man/man${page##*.}/$page.gz"
     done
     install -m 644 "$top/packaging/pami.bash-completion" "$1/share/bash-completion/completions/pami"
-    for page in FORMATS ANSWERS CHECKING FROM_YOUR_TOOL; do
+    for page in FORMATS ANSWERS CHECKING FROM_YOUR_TOOL MANY_MODELS; do
         install -m 644 "$top/docs/$page.md" "$doc/docs/"
     done
     install -m 644 "$top"/examples/*.* "$doc/examples/"
+    install -m 644 "$top"/examples/many/* "$doc/examples/many/"
     cat >"$doc/copyright" <<'END'
 The owner of pami hasn't chosen a licence yet. Until one is named, nothing is
 granted beyond what the law gives every reader.

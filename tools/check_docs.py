@@ -37,6 +37,7 @@ FOREIGN = set(
     md py txt kb mb lp mps dev full null stdin stdout stderr
     glpk utils qsopt librust num rational checked check exact freemps clp noint tofile to_lp gunzip xbf
     Binary Semi multiobjectives iron_ore venv install
+    parallel resume make j4 snakemake
     """.split()
 )
 

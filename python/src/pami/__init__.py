@@ -1,8 +1,8 @@
 """Exact linear programming from Python.
 
 `solve` calls the program pami on a model and reads its answer; `check` has the program judge a certificate; `verify`
-judges one here, with unbounded fractions and readers of its own. All numbers are `fractions.Fraction`. Errors are
-`PamiError`, each with its own name.
+judges one here, with unbounded fractions and readers of its own; `sweep` solves many models. All numbers are
+`fractions.Fraction`. Errors are `PamiError`, each with its own name.
 """
 
 from .answer import (
@@ -48,6 +48,7 @@ from .errors import (
 )
 from .model import Model
 from .program import check, find_program, solve
+from .scenarios import Scenario, sweep
 from .source import read_model
 from .verdict import Verdict
 
@@ -83,6 +84,7 @@ __all__ = [
     "Result",
     "Rollback",
     "Row",
+    "Scenario",
     "Status",
     "TextCut",
     "TextFault",
@@ -95,4 +97,5 @@ __all__ = [
     "read_model",
     "read_result",
     "solve",
+    "sweep",
 ]
