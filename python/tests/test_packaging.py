@@ -5,6 +5,7 @@ skipped.
 from __future__ import annotations
 
 import os
+import re
 import shutil
 import subprocess
 import tarfile
@@ -36,6 +37,32 @@ def test_man_page(page: str) -> None:
     assert (ran.returncode, ran.stderr) == (0, "")
     name, section = page.split(".")
     assert f'.TH "{name}" "{section}"' in ran.stdout
+
+
+def _heads(text: str) -> list[str]:
+    """The words in bold that are lines of their own, each of which a paragraph explains."""
+    found: list[str] = []
+    for line in text.splitlines():
+        if re.fullmatch(r"\*[\w-]+\*(?:, \*[\w-]+\*)*", line):
+            found += re.findall(r"[\w-]+", line)
+    return found
+
+
+def _table(page: str, title: str, column: int) -> list[str]:
+    """The words in backticks in a column of the table that begins so."""
+    rows = (TOP / page).read_text(encoding="utf-8").split(title, 1)[1].split("\n\n", 1)[0].splitlines()[2:]
+    return [word for row in rows for word in re.findall(r"`([^`]+)`", row.split("|")[column])]
+
+
+def test_man_pages_agree_with_the_documents() -> None:
+    """The statuses are those of README, the conditions those of CHECKING, and the faults those of FORMATS."""
+    text = (TOP / "man" / "pami.1.scd").read_text(encoding="utf-8")
+    statuses = re.findall(r"^\| (\d+) \|", (TOP / "README.md").read_text(encoding="utf-8"), re.M)
+    assert [head for head in _heads(text) if head.isdecimal()] == statuses
+    text = (TOP / "man" / "pami-certificate.5.scd").read_text(encoding="utf-8")
+    conditions, faults = text.split("# FAULTS")
+    assert _heads(conditions) == _table("docs/CHECKING.md", "| Certificate | CONDITION |", 2)
+    assert _heads(faults) == _table("docs/FORMATS.md", "| Fault |", 1)
 
 
 def _completed(*words: str) -> list[str]:
