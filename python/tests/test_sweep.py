@@ -35,7 +35,7 @@ def _dask() -> Iterator[Executor]:
         yield client.get_executor()
 
 
-@pytest.mark.parametrize("open_executor", [_threads, _processes, _dask])
+@pytest.mark.parametrize("open_executor", [_threads, _processes, pytest.param(_dask, marks=pytest.mark.cluster)])
 def test_executors(
     program: str, examples: Path, open_executor: Callable[[], AbstractContextManager[Executor]]
 ) -> None:
