@@ -13,3 +13,4 @@ pub mod ReachScripts
 pub mod ListScripts
 pub mod KeptWork
 pub mod UnrefusedTasks
+pub mod WalkHistories

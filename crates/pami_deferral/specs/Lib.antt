@@ -4,3 +4,4 @@ pub mod Inside
 pub mod Factored
 pub mod Listed
 pub mod KeptWork
+pub mod Factors

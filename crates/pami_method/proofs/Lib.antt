@@ -6,7 +6,6 @@ pub mod Counts
 pub mod Batches
 pub mod Walks
 pub mod Runs
-pub mod OneRow
 pub mod Stuck
 pub mod Sound
 pub mod Answers

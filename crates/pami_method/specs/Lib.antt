@@ -3,6 +3,5 @@ pub mod Factor
 pub mod Scripts
 pub mod Batch
 pub mod Work
-pub mod OneRow
 pub mod Walk
 pub mod Phases

@@ -11,7 +11,6 @@
 
 pub mod answer_laws;
 pub mod batch_laws;
-pub mod one_row_laws;
 pub mod run_laws;
 pub mod script_laws;
 pub mod task_laws;
