@@ -7,3 +7,4 @@ pub mod Members
 pub mod Passes
 pub mod Results
 pub mod Changed
+pub mod ProductForm
