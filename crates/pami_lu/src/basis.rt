@@ -8,7 +8,7 @@ ghost use Rattle.pami_lu.specs.Follow.{IfSingular};
 
 use crate::elimination::eliminate_rows;
 use crate::lu::Lu;
-use crate::matrix::basis_rows;
+use crate::matrix::{basis_members, basis_rows};
 use crate::steps::Steps;
 use pami_factoring::LuFault;
 use pami_frac::Fault;
@@ -40,5 +40,6 @@ pub fn eliminate<L>(
 {
     steps.tick();
     let rows = basis_rows(alloc, columns, head)?;
-    eliminate_rows(alloc, rows)
+    let members = basis_members(alloc, columns, head)?;
+    eliminate_rows(alloc, rows, members)
 }

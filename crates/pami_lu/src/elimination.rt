@@ -1,57 +1,61 @@
 //! The loop over the steps of an elimination.
 
-ghost use Rattle.std.specs.Prelude.{◌≡◌, ◌<◌, ◌^◌, ℕ, length, true, false, [], ◌∷◌, ◌++◌};
+ghost use Rattle.std.specs.Prelude.{◌≡◌, ◌<◌, ◌≤◌, ◌^◌, ℕ, Bool, List, length, true, false, [], ◌∷◌, ◌++◌, IfOk};
 ghost use Rattle.pami_frac.specs.Signs.{is_zero};
-ghost use Rattle.pami_factoring.specs.Factor.{flag, entry, row_at, step_at, elimination_script};
-ghost use Rattle.pami_factoring.specs.Steps.{IsSquare};
 ghost use Rattle.pami_frac.specs.Answers.{FollowsBy};
+ghost use Rattle.pami_factoring.specs.Factor.{entry, row_at, elimination_script};
+ghost use Rattle.pami_factoring.specs.Steps.{IsSquare};
+ghost use Rattle.pami_lu.specs.Clear.{clear_step};
+ghost use Rattle.pami_lu.specs.Cleaned.{IsCleaned, IsStepOf};
 ghost use Rattle.pami_lu.specs.Follow.{FollowsPivot, widened};
+ghost use Rattle.pami_lu.specs.Members.{AreAll, AreOthers, stands_at};
+ghost use Rattle.pami_lu.specs.Plain.{set_of};
 
 use crate::flags::{all_active, first_active};
 use crate::lu::Lu;
-use crate::reduce::reduce_rows;
-use crate::search::{Found, count_rows, find_pivot};
-use pami_factoring::{Kept, LuFault};
-use pami_frac::{Fault, FracList, Refused};
+use crate::reduce::{leave, reduce_rows};
+use crate::row_set::RowSet;
+use crate::search::{Found, find_pivot};
+use crate::step::SparseStep;
+use crate::vectors::empty;
+use pami_factoring::LuFault;
+use pami_frac::{Fault, Refused};
+use pami_vec::SpVec;
 use std::alloc::Global;
 use std::mem;
 
-/// A step, and the rows after it.
-#[derive(Drop)]
-struct Taken {
-    step: Kept,
-    rows: Vec<FracList>,
-}
-
-/// The step at a pivot. The flags are those after it; the pivot's row leaves the rows as it is.
+/// The step at a pivot; it leaves the rows and the sets as they are after it.
 fn take_step(
     alloc: Global,
-    active: &[bool],
-    places: &[bool],
-    rows: Vec<FracList>,
+    rows: &mut Vec<SpVec>,
+    members: &mut Vec<RowSet>,
     row: usize,
     place: usize,
-) -> Result<Taken, Fault<Refused>>
-    requires same { (h : ℕ) → h < length rows.items → flag active.now h ≡ true → length (row_at rows.items h) ≡ length places.now }
-    requires all { length active.now ≡ length rows.items }
-    requires row_low { row < length rows.items }
-    requires row_out { flag active.now row ≡ false }
-    requires place_low { place < length places.now }
-    requires kept { length (row_at rows.items row) ≡ length places.now }
-    requires nonzero { is_zero (entry rows.items row place) ≡ false }
-    ensures { FollowsBy (λ t. (t.step, t.rows.items)) (step_at active.now places.now rows.items row place) result }
+) -> Result<SparseStep, Fault<Refused>>
+    requires few { length rows.old.items < 2 ^ 32 }
+    requires square { length (row_at rows.old.items row) ≡ length rows.old.items }
+    requires sets { length members.old.items ≡ length rows.old.items }
+    requires row_low { row < length rows.old.items }
+    requires place_low { place < length rows.old.items }
+    requires all { AreAll rows.old.items members.old.items }
+    requires long { (h : ℕ) → stands_at rows.old.items h place ≡ true → length (row_at rows.old.items h) ≡ length rows.old.items }
+    requires nonzero { is_zero (entry rows.old.items row place) ≡ false }
+    ensures script { (ts cs : List Bool) → IsStepOf ts cs rows.old.items row place
+        → FollowsBy (λ step. (step, rows.new.items)) (clear_step ts cs rows.old.items row place) result }
+    ensures others { IfOk result (λ _. AreOthers place rows.new.items members.new.items × (set_of members.new.items place ≡ [])) }
+    ensures sets { IfOk result (λ _. length members.new.items ≡ length members.old.items) }
 {
-    let mut rows = rows;
-    let kept = mem::replace(&mut rows[row], FracList::from_vec(Vec::new(alloc)));
-    let reduced = reduce_rows(alloc, active, places, place, rows, kept.as_slice())?;
-    Ok(Taken {
-        step: Kept {
-            row,
-            place,
-            kept,
-            multipliers: reduced.multipliers,
-        },
-        rows: reduced.rows,
+    let nothing = empty(alloc)?;
+    let kept = mem::replace(&mut rows[row], nothing);
+    leave(members, row as u32, kept.entries());
+    let below = mem::replace(&mut members[place], RowSet::empty(alloc));
+    let multipliers = reduce_rows(alloc, place as u32, &kept, below.as_slice(), rows, members)?;
+    members[place] = RowSet::empty(alloc);
+    Ok(SparseStep {
+        row,
+        place,
+        kept,
+        multipliers,
     })
 }
 
@@ -66,20 +70,15 @@ fn widen(fault: Fault<Refused>) -> Fault<LuFault>
 }
 
 /// The pivot of the next step, or the fault where there is none.
-fn next_pivot(
-    alloc: Global,
-    active: &[bool],
-    places: &[bool],
-    rows: &[FracList],
-) -> Result<Found, Fault<LuFault>>
+fn next_pivot(places: &[bool], rows: &[SpVec], members: &[RowSet]) -> Result<Found, Fault<LuFault>>
     requires few { length rows.now < 2 ^ 32 }
-    requires all { length active.now ≡ length rows.now }
     requires square { length places.now ≡ length rows.now }
-    requires same { (h : ℕ) → h < length rows.now → flag active.now h ≡ true → length (row_at rows.now h) ≡ length rows.now }
-    ensures { FollowsPivot active.now places.now rows.now result }
+    requires sets { length members.now ≡ length rows.now }
+    requires all { AreAll rows.now members.now }
+    requires long { (h : ℕ) → length (row_at rows.now h) ≤ length rows.now }
+    ensures { (ts : List Bool) → length ts ≡ length rows.now → IsCleaned ts places.now rows.now → FollowsPivot ts places.now rows.now result }
 {
-    let counts = count_rows(alloc, active, places, rows)?;
-    match find_pivot(active, places, rows, &counts) {
+    match find_pivot(rows, members) {
         Some(pivot) => Ok(pivot),
         None => Err(Fault::Named(LuFault::Singular {
             place: first_active(places) as u32,
@@ -88,35 +87,39 @@ fn next_pivot(
 }
 
 /// Puts a step at the end; tells whether there was memory for it.
-fn push_step(steps: &mut Vec<Kept>, step: Kept) -> bool
+fn push_step(steps: &mut Vec<SparseStep>, step: SparseStep) -> bool
     ensures { result ≡ true → steps.new.items ≡ steps.old.items ++ (step ∷ []) }
 {
     steps.push(step).is_ok()
 }
 
-/// The elimination of a square matrix, given by its rows.
-pub(crate) fn eliminate_rows(alloc: Global, matrix: Vec<FracList>) -> Result<Lu, Fault<LuFault>>
+/// The elimination of a square matrix, given by its rows and, for each place, the rows with a nonzero there.
+pub(crate) fn eliminate_rows(
+    alloc: Global,
+    matrix: Vec<SpVec>,
+    places_of: Vec<RowSet>,
+) -> Result<Lu, Fault<LuFault>>
     requires few { length matrix.items < 2 ^ 32 }
     requires square { IsSquare matrix.items }
+    requires sets { length places_of.items ≡ length matrix.items }
+    requires all { AreAll matrix.items places_of.items }
     ensures { FollowsBy (λ ks. ks) (elimination_script matrix.items) result }
 {
     let m = matrix.len();
-    let mut active = all_active(alloc, m)?;
     let mut places = all_active(alloc, m)?;
     let mut rows = matrix;
+    let mut members = places_of;
     let mut steps = Vec::new(alloc);
     for k in 0..m {
-        let pivot = next_pivot(alloc, &active, &places, &rows)?;
-        active[pivot.row] = false;
+        let pivot = next_pivot(&places, &rows, &members)?;
         places[pivot.place] = false;
-        let taken = match take_step(alloc, &active, &places, rows, pivot.row, pivot.place) {
-            Ok(taken) => taken,
+        let step = match take_step(alloc, &mut rows, &mut members, pivot.row, pivot.place) {
+            Ok(step) => step,
             Err(fault) => return Err(widen(fault)),
         };
-        if !push_step(&mut steps, taken.step) {
+        if !push_step(&mut steps, step) {
             return Err(Fault::OutOfMemory);
         }
-        rows = taken.rows;
     }
     Ok(Lu::of(steps))
 }

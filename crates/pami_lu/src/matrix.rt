@@ -1,8 +1,10 @@
-//! The square matrix of a basis, by rows.
+//! The square matrix of a basis, by rows and by places.
 
 ghost use Rattle.std.specs.Prelude.{◌≡◌, ◌<◌, ◌^◌, ℕ, length, slice_index_or, [], All, IfOk};
 ghost use Rattle.pami_factoring.specs.Factor.{columns_at, row_of, matrix_of};
+ghost use Rattle.pami_lu.specs.Members.{AreAll, places_of};
 
+use crate::row_set::RowSet;
 use pami_frac::{FracList, OutOfMemory};
 use pami_vec::SpVec;
 use std::alloc::Global;
@@ -31,7 +33,7 @@ pub(crate) fn basis_rows(
     alloc: Global,
     columns: &[SpVec],
     head: &[u32],
-) -> Result<Vec<FracList>, OutOfMemory>
+) -> Result<Vec<SpVec>, OutOfMemory>
     requires few { length head.now < 2 ^ 32 }
     requires heights { (j : ℕ) → j < length columns.now → length (slice_index_or columns.now j []) ≡ length head.now }
     requires known { All (λ j. j < length columns.now) head.now }
@@ -39,7 +41,39 @@ pub(crate) fn basis_rows(
 {
     let mut out = Vec::new(alloc);
     for row in 0..head.len() {
-        out.push(basis_row(alloc, columns, head, row as u32)?)?;
+        let members = basis_row(alloc, columns, head, row as u32)?;
+        out.push(SpVec::from_dense(alloc, members.as_slice())?)?;
+    }
+    Ok(out)
+}
+
+/// The rows that a column has an entry in.
+fn rows_of_column(alloc: Global, column: &SpVec) -> Result<RowSet, OutOfMemory>
+    ensures { IfOk result (λ s. s ≡ places_of column.now) }
+{
+    let entries = column.entries();
+    let mut out = Vec::new(alloc);
+    for entry in entries {
+        out.push(entry.place)?;
+    }
+    Ok(RowSet::of(out))
+}
+
+/// For each place the rows with a nonzero there.
+pub(crate) fn basis_members(
+    alloc: Global,
+    columns: &[SpVec],
+    head: &[u32],
+) -> Result<Vec<RowSet>, OutOfMemory>
+    requires few { length head.now < 2 ^ 32 }
+    requires heights { (j : ℕ) → j < length columns.now → length (slice_index_or columns.now j []) ≡ length head.now }
+    requires known { All (λ j. j < length columns.now) head.now }
+    ensures all { IfOk result (λ members. AreAll (matrix_of columns.now head.now) members.items) }
+    ensures count { IfOk result (λ members. length members.items ≡ length (matrix_of columns.now head.now)) }
+{
+    let mut out = Vec::new(alloc);
+    for j in head {
+        out.push(rows_of_column(alloc, &columns[*j as usize])?)?;
     }
     Ok(out)
 }

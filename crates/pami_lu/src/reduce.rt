@@ -1,106 +1,122 @@
 //! One step of an elimination at a pivot.
 
-ghost use Rattle.std.specs.Prelude.{◌≡◌, ◌<◌, ℕ, length, true, false, [], List};
-ghost use Rattle.pami_algebra.specs.Fraction.{Fraction};
+ghost use Rattle.std.specs.Prelude.{◌≡◌, ◌<◌, ◌≤◌, ◌^◌, ℕ, length, true, false, [], List, All, set, replicate, pos, cond, IfOk};
+ghost use Rattle.pami_algebra.specs.Operations.{of_int};
 ghost use Rattle.pami_frac.specs.Signs.{is_zero};
 ghost use Rattle.pami_linear.specs.Lists.{get};
+ghost use Rattle.pami_script.specs.Dense.{Rising};
 ghost use Rattle.pami_frac.specs.Answers.{FollowsBy};
-ghost use Rattle.pami_factoring.specs.Factor.{flag, row_at, sub_row, reduce_row, reduce_rows};
+ghost use Rattle.pami_factoring.specs.Factor.{row_at};
+ghost use Rattle.pami_lu.specs.Members.{Ascends, AreOthers, with_row, without_row};
+ghost use Rattle.pami_lu.specs.Plain.{plain_row, plain_rows, change_all, left_by, noted};
 
-use pami_factoring::subtract_if;
-use pami_frac::{Fault, Frac, FracList, Refused};
+use crate::row_set::RowSet;
+use crate::vectors::without;
+use pami_frac::{Entry, Fault, Frac, OutOfMemory, Refused};
+use pami_vec::SpVec;
 use std::alloc::Global;
-
-/// x - l y at each active place, ascending; `xs` and `ys` go by place.
-fn reduce_entries(
-    alloc: Global,
-    places: &[bool],
-    xs: &[Frac],
-    l: Frac,
-    ys: &[Frac],
-) -> Result<FracList, Fault<Refused>>
-    requires same { length places.now ≡ length xs.now }
-    requires other { length ys.now ≡ length xs.now }
-    ensures { FollowsBy (λ v. v) (sub_row places.now xs.now l ys.now) result }
-{
-    let mut out = Vec::new(alloc);
-    for (g, x) in xs.iter().enumerate() {
-        out.push(subtract_if(places[g], *x, l, ys[g])?)?;
-    }
-    Ok(FracList::from_vec(out))
-}
 
 /// A row after a step, and its multiplier.
 #[derive(Drop)]
-pub(crate) struct ReducedRow {
-    row: FracList,
+struct ReducedRow {
+    row: SpVec,
     multiplier: Frac,
 }
 
-/// One row of a step with a pivot at this place. A row that isn't active is emptied; one with a 0 at the place stays
-/// as it is.
+/// One active row of a step with this pivot at this place; `rest` is the pivot's row with 0 at the place.
 fn reduce_row(
     alloc: Global,
-    active: bool,
-    places: &[bool],
-    place: usize,
-    row: FracList,
-    kept: &[Frac],
+    place: u32,
+    pivot: Frac,
+    rest: &SpVec,
+    row: &SpVec,
 ) -> Result<ReducedRow, Fault<Refused>>
-    requires same { active ≡ true → length row ≡ length places.now }
-    requires other { length kept.now ≡ length places.now }
-    requires low { place < length places.now }
-    requires nonzero { is_zero (get kept.now place) ≡ false }
-    ensures { FollowsBy (λ r. (r.row, r.multiplier)) (reduce_row active places.now place row kept.now) result }
+    requires same { length row.now ≡ length rest.now }
+    requires low { place < length row.now }
+    requires nonzero { is_zero pivot ≡ false }
+    ensures { FollowsBy (λ r. (r.row, r.multiplier)) (plain_row place pivot rest.now row.now) result }
 {
-    if !active {
-        return Ok(ReducedRow {
-            row: FracList::from_vec(Vec::new(alloc)),
-            multiplier: Frac::zero(),
-        });
-    }
-    let multiplier = row.as_slice()[place].div(kept[place])?;
-    if multiplier.is_zero() {
-        return Ok(ReducedRow { row, multiplier });
-    }
-    let row = reduce_entries(alloc, places, row.as_slice(), multiplier, kept)?;
+    let multiplier = row.at(place).div(pivot)?;
+    let others = without(alloc, row, place)?;
+    let row = others.take_times(alloc, multiplier, rest)?;
     Ok(ReducedRow { row, multiplier })
 }
 
-/// The rows after a step, and their multipliers.
-#[derive(Drop)]
-pub(crate) struct ReducedRows {
-    pub(crate) rows: Vec<FracList>,
-    pub(crate) multipliers: FracList,
+/// Takes a row that leaves the active part out of the sets of its places.
+pub(crate) fn leave(members: &mut Vec<RowSet>, row: u32, entries: &[Entry])
+    requires { All (λ e. e.place < length members.old.items) entries.now }
+    ensures { members.new.items ≡ change_all entries.now (left_by row) members.old.items }
+{
+    for entry in entries {
+        members[entry.place as usize].remove(row);
+    }
 }
 
-/// Each row of a step in turn; the flags are those after it, and `kept` is the pivot's row, by place.
+/// Takes a row that is gone out of a set, and puts another one in.
+fn note_one(set: &mut RowSet, row: u32, gone: bool) -> Result<(), OutOfMemory>
+    ensures { IfOk result (λ _. set.new ≡ cond gone (without_row row set.old) (with_row row set.old)) }
+{
+    if gone {
+        set.remove(row);
+        Ok(())
+    } else {
+        set.insert(row)
+    }
+}
+
+/// Brings the sets up to date with a row that has changed at the places of these entries alone.
+fn note(
+    members: &mut Vec<RowSet>,
+    row: u32,
+    changed: &[Entry],
+    now: &SpVec,
+) -> Result<(), OutOfMemory>
+    requires known { All (λ e. e.place < length members.old.items) changed.now }
+    requires low { All (λ e. e.place < length now.now) changed.now }
+    ensures { IfOk result (λ _. members.new.items ≡ change_all changed.now (noted row now.now) members.old.items) }
+{
+    for entry in changed {
+        let gone = now.at(entry.place).is_zero();
+        note_one(&mut members[entry.place as usize], row, gone)?;
+    }
+    Ok(())
+}
+
+/// The rows below a pivot in turn. Those of `below`, rising, are the rows that have an entry at its place. It answers the
+/// multipliers, by row.
 pub(crate) fn reduce_rows(
     alloc: Global,
-    active: &[bool],
-    places: &[bool],
-    place: usize,
-    rows: Vec<FracList>,
-    kept: &[Frac],
-) -> Result<ReducedRows, Fault<Refused>>
-    requires same { (h : ℕ) → h < length rows.items → flag active.now h ≡ true → length (row_at rows.items h) ≡ length places.now }
-    requires all { length active.now ≡ length rows.items }
-    requires other { length kept.now ≡ length places.now }
-    requires low { place < length places.now }
+    place: u32,
+    kept: &SpVec,
+    below: &[u32],
+    rows: &mut Vec<SpVec>,
+    members: &mut Vec<RowSet>,
+) -> Result<SpVec, Fault<Refused>>
+    requires few { length rows.old.items < 2 ^ 32 }
+    requires square { length rows.old.items ≡ length kept.now }
+    requires sets { length members.old.items ≡ length kept.now }
+    requires ascends { Ascends 0 (length kept.now) below.now }
+    requires same { All (λ h. length (row_at rows.old.items h) ≡ length kept.now) below.now }
+    requires low { place < length kept.now }
     requires nonzero { is_zero (get kept.now place) ≡ false }
-    ensures { FollowsBy (λ r. (r.rows.items, r.multipliers)) (reduce_rows active.now places.now place rows.items kept.now) result }
+    requires others { AreOthers place rows.old.items members.old.items }
+    ensures script { let rest = set kept.now place (of_int (pos 0)) in
+        let none = replicate (length kept.now) (of_int (pos 0)) in
+        FollowsBy (λ ls. (rows.new.items, ls)) (plain_rows below.now place (get kept.now place) rest rows.old.items none) result }
+    ensures others { IfOk result (λ _. AreOthers place rows.new.items members.new.items) }
+    ensures sets { IfOk result (λ _. length members.new.items ≡ length members.old.items) }
 {
-    let mut out = Vec::new(alloc);
+    let pivot = kept.at(place);
+    let rest = without(alloc, kept, place)?;
     let mut multipliers = Vec::new(alloc);
-    let mut h = 0;
-    for row in rows {
-        let next = reduce_row(alloc, active[h], places, place, row, kept)?;
-        h += 1;
-        multipliers.push(next.multiplier)?;
-        out.push(next.row)?;
+    for h in below {
+        let next = reduce_row(alloc, place, pivot, &rest, &rows[*h as usize])?;
+        note(members, *h, rest.entries(), &next.row)?;
+        rows[*h as usize] = next.row;
+        multipliers.push(Entry {
+            place: *h,
+            value: next.multiplier,
+        })?;
     }
-    Ok(ReducedRows {
-        rows: out,
-        multipliers: FracList::from_vec(multipliers),
-    })
+    Ok(SpVec::from_entries(alloc, kept.len(), &multipliers)?)
 }

@@ -4,7 +4,7 @@
 ghost use Rattle.std.specs.Prelude.{◌≡◌, length, IfOk};
 ghost use Rattle.pami_script.specs.Dense.{Rising};
 
-use crate::{Kept, Lu, LuFault, Steps, eliminate};
+use crate::{Lu, LuFault, SparseStep, Steps, eliminate};
 use pami_frac::{Entry, Fault, Frac, Op, OutOfMemory, Refused};
 use pami_vec::SpVec;
 use std::alloc::Global;
@@ -54,14 +54,22 @@ fn put_list(out: &mut Vec<u8>, list: &[Frac]) -> Result<(), OutOfMemory> {
     Ok(())
 }
 
+/// The same for all members of a vector.
+fn put_vector(out: &mut Vec<u8>, vector: &SpVec) -> Result<(), OutOfMemory> {
+    for place in 0..vector.len() {
+        put_list(out, &[vector.at(place)])?;
+    }
+    Ok(())
+}
+
 /// For each step its row and place, the kept row, and the multipliers.
-fn steps_text(alloc: Global, steps: &[Kept]) -> Result<Vec<u8>, OutOfMemory> {
+fn steps_text(alloc: Global, steps: &[SparseStep]) -> Result<Vec<u8>, OutOfMemory> {
     let mut out = Vec::new(alloc);
     for step in steps {
         out.extend_from_slice(format!(in alloc; "{} {} |", step.row, step.place)?.as_bytes())?;
-        put_list(&mut out, step.kept.as_slice())?;
+        put_vector(&mut out, &step.kept)?;
         out.extend_from_slice(b" |")?;
-        put_list(&mut out, step.multipliers.as_slice())?;
+        put_vector(&mut out, &step.multipliers)?;
         out.push(b';')?;
     }
     Ok(out)
@@ -130,43 +138,43 @@ fn eliminations(rt: HostRuntime) -> Result<(), Fail> {
         ),
         (
             [[1, 2, 3], [0, 1, 4], [5, 6, 0]],
-            "2 1 | 3 4 0 | 0 1/4 0;0 0 | 1 0 5 | 0 5/4 0;1 2 | 5/4 1 -1/4 | 0 0 0;",
+            "2 1 | 3 4 0 | 0 1/4 0;0 0 | 1 0 5 | 0 5/4 0;1 2 | 0 0 -1/4 | 0 0 0;",
         ),
         (
             [[2, 1, 1], [1, 3, 2], [1, 0, 0]],
-            "0 2 | 2 1 1 | 0 0 0;1 0 | 1 3 0 | 0 0 1;2 1 | 1 -1 0 | 0 0 0;",
+            "0 2 | 2 1 1 | 0 0 0;1 0 | 1 3 0 | 0 0 1;2 1 | 0 -1 0 | 0 0 0;",
         ),
         (
             [[1, 1, 1], [1, 2, 3], [1, 4, 9]],
-            "0 0 | 1 1 1 | 0 1 1;1 1 | 1 1 3 | 0 0 2;2 2 | 1 2 2 | 0 0 0;",
+            "0 0 | 1 1 1 | 0 1 1;1 1 | 0 1 3 | 0 0 2;2 2 | 0 0 2 | 0 0 0;",
         ),
         (
             [[4, -2, 1], [-2, 4, -2], [1, -2, 4]],
-            "0 0 | 4 -2 1 | 0 -1/2 1/4;1 1 | -2 3 -3/2 | 0 0 -1/2;2 2 | 1 -3/2 3 | 0 0 0;",
+            "0 0 | 4 -2 1 | 0 -1/2 1/4;1 1 | 0 3 -3/2 | 0 0 -1/2;2 2 | 0 0 3 | 0 0 0;",
         ),
         (
             [[0, 2, 0], [3, 0, 7], [0, 5, 11]],
-            "1 0 | 2 0 5 | 0 0 0;0 1 | 0 3 0 | 0 0 7/3;2 2 | 0 7 11 | 0 0 0;",
+            "1 0 | 2 0 5 | 0 0 0;0 1 | 0 3 0 | 0 0 7/3;2 2 | 0 0 11 | 0 0 0;",
         ),
         (
             [[1, 1, 0], [0, 1, 1], [1, 0, 1]],
-            "0 0 | 1 0 1 | 0 1 0;1 1 | 1 1 -1 | 0 0 1;2 2 | 0 1 2 | 0 0 0;",
+            "0 0 | 1 0 1 | 0 1 0;1 1 | 0 1 -1 | 0 0 1;2 2 | 0 0 2 | 0 0 0;",
         ),
         (
             [[3, 1, 2], [0, 0, 4], [7, 5, 6]],
-            "2 1 | 2 4 6 | 0 0 0;0 0 | 3 0 7 | 0 1/3 0;1 2 | 1 0 8/3 | 0 0 0;",
+            "2 1 | 2 4 6 | 0 0 0;0 0 | 3 0 7 | 0 1/3 0;1 2 | 0 0 8/3 | 0 0 0;",
         ),
         (
             [[-1, 0, 2], [0, -1, 3], [0, 0, -1]],
-            "0 0 | -1 0 0 | 0 0 -2;1 1 | 0 -1 0 | 0 0 -3;2 2 | 2 3 -1 | 0 0 0;",
+            "0 0 | -1 0 0 | 0 0 -2;1 1 | 0 -1 0 | 0 0 -3;2 2 | 0 0 -1 | 0 0 0;",
         ),
         (
             [[6, 3, 2], [4, 3, 5], [2, 7, 1]],
-            "0 0 | 6 4 2 | 0 1/2 1/3;1 1 | 3 1 6 | 0 0 11/3;2 2 | 2 11/3 -65/3 | 0 0 0;",
+            "0 0 | 6 4 2 | 0 1/2 1/3;1 1 | 0 1 6 | 0 0 11/3;2 2 | 0 0 -65/3 | 0 0 0;",
         ),
         (
             [[0, 1, 1], [1, 0, 1], [1, 1, 0]],
-            "1 0 | 1 0 1 | 0 0 1;0 1 | 0 1 1 | 0 0 1;2 2 | 1 1 -2 | 0 0 0;",
+            "1 0 | 1 0 1 | 0 0 1;0 1 | 0 1 1 | 0 0 1;2 2 | 0 0 -2 | 0 0 0;",
         ),
         (
             [
@@ -178,7 +186,7 @@ fn eliminations(rt: HostRuntime) -> Result<(), Fail> {
         ),
         (
             [[1, 2, 2], [2, 1, 2], [2, 2, 1]],
-            "0 0 | 1 2 2 | 0 2 2;1 1 | 2 -3 -2 | 0 0 2/3;2 2 | 2 -2 -5/3 | 0 0 0;",
+            "0 0 | 1 2 2 | 0 2 2;1 1 | 0 -3 -2 | 0 0 2/3;2 2 | 0 0 -5/3 | 0 0 0;",
         ),
         (
             [[5, 0, 0], [8, 13, 0], [21, 34, 55]],

@@ -11,6 +11,6 @@ loop-row-preserved c =
     c.loop-row.invariant
     ∙ ap (λ k. c.loop-row.out.items ++ rows_from k c.loop-row.row columns) e
     ∙ ap (λ k. c.loop-row.out.items ++ (row_of columns c.loop-row.row ∷ rows_from (n - (c.loop-row.row + 1)) k columns)) f
-    ∙ ap (λ r. c.loop-row.out.items ++ (r ∷ rows_from (n - (c.loop-row.row + 1)) (c.loop-row.row + 1) columns)) (sym c.in_ok-basis_row.ensures)
-    ∙ sym (append_assoc c.loop-row.out.items (c.in_ok-basis_row.field-0 ∷ []) (rows_from (n - (c.loop-row.row + 1)) (c.loop-row.row + 1) columns))
+    ∙ ap (λ r. c.loop-row.out.items ++ (r ∷ rows_from (n - (c.loop-row.row + 1)) (c.loop-row.row + 1) columns)) (sym (c.in_ok-from_dense.ensures ∙ c.as_slice.ensures ∙ c.in_ok-members.ensures))
+    ∙ sym (append_assoc c.loop-row.out.items (c.in_ok-from_dense.field-0 ∷ []) (rows_from (n - (c.loop-row.row + 1)) (c.loop-row.row + 1) columns))
     ∙ ap (λ z. z ++ rows_from (n - (c.loop-row.row + 1)) (c.loop-row.row + 1) columns) (sym c.in_ok-push.ensures.items)
