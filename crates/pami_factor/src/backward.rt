@@ -1,79 +1,93 @@
-//! The backward solve: the factor of each step, then up with them.
+//! The backward solve: back through the pivots since, the factor of each step, then up with them.
 
-ghost use Rattle.std.specs.Prelude.{◌≡◌, ◌<◌, ◌≤◌, ◌^◌, length, [], All, IfOk};
+ghost use Rattle.std.specs.Prelude.{◌≡◌, ◌<◌, ◌^◌, ℕ, [], List, Bool, false, Ok, map, length, IfOk};
 ghost use Rattle.pami_linear.specs.Lists.{get};
-ghost use Rattle.pami_frac.specs.Answers.{FollowsBy};
-ghost use Rattle.pami_factoring.specs.Solve.{sub_all, sub_kept, factor_at, factors, by_row, combined, backward_script};
-ghost use Rattle.pami_factoring.specs.Steps.{IsReady};
+ghost use Rattle.pami_frac.specs.Signs.{is_zero};
+ghost use Rattle.pami_frac.specs.Answers.{FollowsBy, BecomesBy};
+ghost use Rattle.pami_frac.specs.Arithmetic.{div_outcome};
+ghost use Rattle.pami_script.specs.Dense.{at, Rising};
+ghost use Rattle.pami_script.specs.Script.{then, sub_product as the_sub_product};
+ghost use Rattle.pami_factoring.specs.Solve.{factors, by_row, combined, backward_script};
+ghost use Rattle.pami_vec.specs.Pivots.{column_pivots, ArePivots};
+ghost use Rattle.pami_lu.specs.Stored.{full_steps, AreWhole};
+ghost use Rattle.pami_factor.specs.Reads.{IsLeftOut, rest_at, row_value};
 ghost use Rattle.pami_factor.specs.Units.{unit_list};
 
-use crate::dense::{flags, unit, zeros};
-use crate::sums::subtract_all;
-use pami_factoring::{Kept, subtract_if};
-use pami_frac::{Fault, Frac, OutOfMemory, Refused};
-use pami_vec::SpVec;
+use crate::dense::{unit, zeros};
+use crate::product::go_back_all;
+use crate::sums::subtract_entries;
+use pami_frac::{Entry, Fault, Frac, OutOfMemory, Refused};
+use pami_lu::SparseStep;
+use pami_script::plain::sub_product;
+use pami_vec::{Pivot, SpVec};
 use std::alloc::Global;
 
-/// `t`, less each factor times the member at this place of its step's kept row, in the order of the steps.
-fn subtract_kept(
-    size: usize,
-    place: usize,
-    steps: &[Kept],
-    factors: &[Frac],
-    t: Frac,
-) -> Result<Frac, Refused>
-    requires low { place < size }
-    requires ready { All (IsReady size) steps.now }
-    requires fewer { length factors.now ≤ length steps.now }
-    ensures { result ≡ sub_kept place steps.now factors.now t }
+/// What is left of a member of the right side, or the operation at which it was refused. A refusal waits here until the
+/// member is wanted, since that of another member may come before it.
+type Rest = Result<Frac, Refused>;
+
+/// The members of the right side before any step.
+fn all_left(alloc: Global, right: &[Frac]) -> Result<Vec<Rest>, OutOfMemory>
+    ensures { IfOk result (λ rests. rests.items ≡ map (λ t. Ok t) right.now) }
 {
-    let mut rest = t;
-    for (j, factor) in factors.iter().enumerate() {
-        rest = match subtract_if(true, rest, *factor, steps[j].kept.as_slice()[place]) {
-            Ok(rest) => rest,
-            Err(refused) => return Err(refused),
-        };
+    let mut rests = Vec::new(alloc);
+    for member in right {
+        rests.push(Ok(*member))?;
     }
-    Ok(rest)
+    Ok(rests)
 }
 
-/// The factor of a step, from those of the steps before it; `right` goes by place.
-fn step_factor(
-    steps: &[Kept],
-    step: &Kept,
-    factors: &[Frac],
-    right: &[Frac],
-) -> Result<Frac, Refused>
-    requires ready { IsReady (length right.now) step.now }
-    requires all { All (IsReady (length right.now)) steps.now }
-    requires fewer { length factors.now ≤ length steps.now }
-    ensures { result ≡ factor_at steps.now step.now factors.now right.now }
+/// `rest - factor value`, where there is a rest.
+fn less(rest: Rest, factor: Frac, value: Frac) -> Rest
+    ensures { result ≡ then rest (λ t. the_sub_product t factor value) }
 {
-    match subtract_kept(right.len(), step.place, steps, factors, right[step.place]) {
-        Ok(rest) => rest.div(step.kept.as_slice()[step.place]),
-        Err(refused) => Err(refused),
+    sub_product(rest?, factor, value)
+}
+
+/// Takes the factor of a step times its kept row from the rests at all places but its own. A factor 0 takes nothing.
+fn take_kept(rests: &mut [Rest], factor: Frac, kept: &[Entry], own: u32)
+    requires { Rising 0 (length rests.old) kept.now }
+    ensures each { (g : ℕ) → ¬ (g ≡ own) → rest_at rests.new g ≡ then (rest_at rests.old g) (λ t. the_sub_product t factor (at kept.now g)) }
+    ensures as_many { length rests.new ≡ length rests.old }
+{
+    if factor.is_zero() {
+        return;
     }
+    for entry in kept {
+        if entry.place != own {
+            let place = entry.place as usize;
+            rests[place] = less(rests[place], factor, entry.value);
+        }
+    }
+}
+
+/// The factor of a step, from what is left at its place and its pivot.
+fn factor_of(rest: Rest, pivot: Frac) -> Result<Frac, Refused>
+    requires { is_zero pivot ≡ false }
+    ensures { result ≡ then rest (λ t. div_outcome t pivot) }
+{
+    rest?.div(pivot)
 }
 
 /// The factors of all steps, for a right side by place.
 pub(crate) fn find_factors(
     alloc: Global,
-    steps: &[Kept],
+    steps: &[SparseStep],
     right: &[Frac],
 ) -> Result<Vec<Frac>, Fault<Refused>>
-    requires { All (IsReady (length right.now)) steps.now }
-    ensures script { FollowsBy (λ v. v.items) (factors steps.now steps.now [] right.now) result }
+    requires few { length right.now < 2 ^ 32 }
+    requires stored { AreWhole steps.now }
+    requires same { length right.now ≡ length steps.now }
+    ensures script { FollowsBy (λ v. v.items) (factors (full_steps [] steps.now) (full_steps [] steps.now) [] right.now) result }
     ensures size { IfOk result (λ v. length v.items ≡ length steps.now) }
 {
+    let mut rests = all_left(alloc, right)?;
     let mut out = Vec::new(alloc);
     for step in steps {
-        let factor = match step_factor(steps, step, &out, right) {
-            Ok(factor) => factor,
-            Err(refused) => return Err(Fault::Named(refused)),
-        };
-        if out.push(factor).is_err() {
-            return Err(Fault::OutOfMemory);
-        }
+        let own = step.place as u32;
+        let factor = factor_of(rests[step.place], step.kept.at(own))?;
+        take_kept(rests.as_mut_slice(), factor, step.kept.entries(), own);
+        out.push(factor)?;
     }
     Ok(out)
 }
@@ -81,76 +95,73 @@ pub(crate) fn find_factors(
 /// The factors by row: each in the row of its step.
 pub(crate) fn factors_by_row(
     alloc: Global,
-    steps: &[Kept],
+    steps: &[SparseStep],
     factors: &[Frac],
 ) -> Result<Vec<Frac>, OutOfMemory>
-    requires ready { All (IsReady (length factors.now)) steps.now }
+    requires stored { AreWhole steps.now }
     requires same { length factors.now ≡ length steps.now }
-    ensures values { IfOk result (λ v. v.items ≡ by_row (length factors.now) steps.now factors.now) }
+    ensures values { IfOk result (λ v. v.items ≡ by_row (length factors.now) (full_steps [] steps.now) factors.now) }
     ensures size { IfOk result (λ v. length v.items ≡ length factors.now) }
 {
     let mut out = zeros(alloc, steps.len())?;
     let mut k = steps.len();
     while k > 0 {
         k -= 1;
-        out[steps[k].row] = factors[k];
+        let step = &steps[k];
+        out[step.row] = factors[k];
     }
     Ok(out)
 }
 
-/// The member of the solution in the row of a step; `xs` goes by row, with the solution's members in the active rows.
-fn row_value(active: &[bool], step: &Kept, xs: &[Frac]) -> Result<Frac, Refused>
-    requires flags { length active.now ≡ length xs.now }
-    requires ready { IsReady (length xs.now) step.now }
-    ensures { result ≡ sub_all active.now step.now.multipliers xs.now (get xs.now step.now.row) }
+/// Takes the members in the rows below a step from the one in its row. A row that isn't active after the step has no
+/// multiplier.
+fn take_below(members: &mut [Frac], step: &SparseStep) -> Result<(), Refused>
+    requires low { step.now.row < length members.old }
+    requires same { length step.now.multipliers ≡ length members.old }
+    ensures script { (ts : List Bool) → IsLeftOut ts (length members.old) step.now.multipliers
+        → BecomesBy (row_value ts step.now members.old) members.new result }
+    ensures as_many { length members.new ≡ length members.old }
 {
-    subtract_all(active, step.multipliers.as_slice(), xs, xs[step.row])
+    let value = subtract_entries(members[step.row], step.multipliers.entries(), members)?;
+    members[step.row] = value;
+    Ok(())
 }
 
-/// The solution, by row, from the factors by row.
-pub(crate) fn combine(
-    alloc: Global,
-    steps: &[Kept],
-    by_row: Vec<Frac>,
-) -> Result<Vec<Frac>, Fault<Refused>>
-    requires { All (IsReady (length by_row.items)) steps.now }
-    ensures script { FollowsBy (λ v. v.items) (combined (length by_row.items) steps.now by_row.items) result }
-    ensures size { IfOk result (λ v. length v.items ≡ length by_row.items) }
+/// Takes factors by row to the solution by row, from the last step to the first.
+pub(crate) fn combine(members: &mut [Frac], steps: &[SparseStep]) -> Result<(), Refused>
+    requires stored { AreWhole steps.now }
+    requires same { length members.old ≡ length steps.now }
+    ensures script { BecomesBy (combined (length members.old) (full_steps [] steps.now) members.old) members.new result }
+    ensures as_many { length members.new ≡ length members.old }
 {
-    let mut active = match flags(alloc, by_row.len(), false) {
-        Ok(active) => active,
-        Err(_) => return Err(Fault::OutOfMemory),
-    };
-    let mut x = by_row;
     let mut k = steps.len();
     while k > 0 {
         k -= 1;
-        let step = &steps[k];
-        let value = match row_value(&active, step, &x) {
-            Ok(value) => value,
-            Err(refused) => return Err(Fault::Named(refused)),
-        };
-        x[step.row] = value;
-        active[step.row] = true;
+        take_below(members, &steps[k])?;
     }
-    Ok(x)
+    Ok(())
 }
 
-/// The row of a place: the solution, by row, for the unit vector of that place.
+/// The row of a place: the unit vector of that place goes back through the pivots since, and by the elimination it has a
+/// solution, by row.
 #[tactic(auto, unfolding(pami_factoring::specs::Solve::backward_script))]
 pub(crate) fn solve_row(
     alloc: Global,
-    steps: &[Kept],
+    steps: &[SparseStep],
+    pivots: &[Pivot],
     place: usize,
 ) -> Result<SpVec, Fault<Refused>>
     requires few { length steps.now < 2 ^ 32 }
     requires low { place < length steps.now }
-    requires ready { All (IsReady (length steps.now)) steps.now }
-    ensures { FollowsBy (λ v. v) (backward_script steps.now [] (unit_list (length steps.now) place)) result }
+    requires stored { AreWhole steps.now }
+    requires pivots { ArePivots (length steps.now) pivots.now }
+    ensures { let unit = unit_list (length steps.now) place in
+        FollowsBy (λ v. v) (backward_script (full_steps [] steps.now) (column_pivots pivots.now) unit) result }
 {
-    let right = unit(alloc, steps.len(), place)?;
+    let mut right = unit(alloc, steps.len(), place)?;
+    go_back_all(right.as_mut_slice(), pivots)?;
     let factors = find_factors(alloc, steps, &right)?;
-    let rows = factors_by_row(alloc, steps, &factors)?;
-    let solution = combine(alloc, steps, rows)?;
+    let mut solution = factors_by_row(alloc, steps, &factors)?;
+    combine(solution.as_mut_slice(), steps)?;
     Ok(SpVec::from_dense(alloc, &solution)?)
 }

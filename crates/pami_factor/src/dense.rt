@@ -7,17 +7,6 @@ ghost use Rattle.pami_factor.specs.Units.{unit_list};
 use pami_frac::{Frac, OutOfMemory};
 use std::alloc::Global;
 
-/// As many flags, all with this value.
-pub(crate) fn flags(alloc: Global, count: usize, value: bool) -> Result<Vec<bool>, OutOfMemory>
-    ensures { IfOk result (λ v. v.items ≡ replicate count value) }
-{
-    let mut out = Vec::new(alloc);
-    for k in 0..count {
-        out.push(value)?;
-    }
-    Ok(out)
-}
-
 /// As many zeros.
 pub(crate) fn zeros(alloc: Global, count: usize) -> Result<Vec<Frac>, OutOfMemory>
     ensures { IfOk result (λ v. v.items ≡ replicate count (of_int (pos 0))) }
