@@ -71,5 +71,6 @@ fresh_again f limit m next minor h =
           h.shifted.at v low ∙ ap (λ c. cond c (get next.fresh.reduced v) (get m.reached.fresh.reduced v)) (lt-ltb v (64 * slices (variables f)) (enough (variables f) v low)));
       limited = h.limited;
       rows = all_rows f next m.reached minor.rows.items next.rows h.reached_rows h.other_rows;
+      remaining = h.remaining;
       room = h.room;
     }

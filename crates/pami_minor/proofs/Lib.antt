@@ -5,6 +5,7 @@ pub mod Picks
 pub mod Places
 pub mod Among
 pub mod NextRow
+pub mod HandedRows
 pub mod StepScripts
 pub mod WalkedRow
 pub mod Slices
@@ -22,3 +23,5 @@ pub mod Shifting
 pub mod ShiftFollows
 pub mod CostsBehind
 pub mod FreshAgain
+pub mod LentRows
+pub mod Ratios

@@ -1,5 +1,5 @@
 -- The next row of a Minor that is fresh: it is picked as the batch's turn has it, or the batch stops.
-use Rattle.std.proofs.Common.{◌≡◌, ℕ, zero, suc, ◌<◌, ◌≤◌, inl, inr, Bool, true, false, not, cond, nat_eq, List, [], ◌∷◌, length, get_or, Option, None, Some, Ok, refl, sym, ap, ◌∙◌, subst, arith, vec_len, vec_capacity}
+use Rattle.std.proofs.Common.{◌≡◌, ℕ, zero, suc, ◌<◌, ◌≤◌, inl, inr, Bool, true, false, not, cond, nat_eq, List, [], ◌∷◌, map, length, get_or, Option, None, Some, Ok, refl, sym, ap, ◌∙◌, subst, arith, vec_len, vec_capacity}
 use Rattle.std.specs.List.{filter, filter_map}
 use Rattle.std.proofs.lemmas.Bool.{eq-eqb, ne_eqb}
 use Rattle.pami_theory.specs.Form.{Form}
@@ -16,10 +16,13 @@ use Rattle.pami_minor.specs.declared.kept.Kept.{Kept}
 use Rattle.pami_minor.specs.declared.kept.Picked.{Picked}
 use Rattle.pami_minor.specs.declared.minor.Minor.{Minor}
 use Rattle.pami_minor.specs.Fresh.{AreFreshRows, IsFreshMinor, IsPricing, rest_of}
-use Rattle.pami_minor.specs.Follow.{FollowsAmong, Stops, IsStopped}
+use Rattle.pami_script.specs.Script.{each_member}
+use Rattle.pami_method.specs.Task.{refusal}
+use Rattle.pami_method.specs.Scripts.{place_script, row_script}
+use Rattle.pami_minor.specs.Follow.{FollowsAmong, Stops, IsStopped, places_left, looked_rows}
 use Rattle.std.proofs.lemmas.Option.{none-some}
 use Rattle.pami_price.specs.Slices.{slices}
-use Rattle.pami_minor.proofs.Among.{fresh_length}
+use Rattle.pami_minor.proofs.Among.{fresh_length, fresh_places}
 
 -- ---- weights are positive
 weights_by : (f : Form) (r : Reached) (ks : List Kept) (xs : List InfeasibleRow) (i : ℕ) (d : Kept) → AreFreshRows f r ks xs
@@ -28,7 +31,7 @@ weights_by f r [] xs i d h p a l = absurd (omega arith)
 weights_by f r (k ∷ ks) [] i d h p a l = absurd h
 weights_by f r (k ∷ ks) (x ∷ xs) zero d h p a l =
     let w = (a x.place (p x (inl refl))).least in
-    let e = h.0.weight in
+    let e = h.0.known.weight in
     omega (arith, w, e)
 weights_by f r (k ∷ ks) (x ∷ xs) (suc i) d h p a l = weights_by f r ks xs i d h.1 (λ y m. p y (inr m)) a (omega arith)
 
@@ -96,10 +99,17 @@ pub record KeepsRest (old new : Minor) : Type 0 where
   pub dropped : vec_capacity new.dropped ≡ vec_capacity old.dropped
   pub remaining : vec_capacity new.remaining ≡ vec_capacity old.remaining
 
+-- the rows that are looked at, below the limit
+pub looked_fit : (f : Form) (limit : ℕ) (r : Reached) → nat_eq r.count limit ≡ false
+    → refusal (each_member (λ k p. place_script f r.basis r.fresh p) 0 (places r.rows)) ≡ None → refusal (looked_rows f limit r) ≡ None
+looked_fit f limit r e n = ap (λ t. refusal (row_script f r.basis r.fresh (cond t [] (places r.rows)))) e ∙ n
+
 pub picks : (f : Form) (limit : ℕ) (r : Reached) (old new : Minor) (p : Picked) → IsFreshMinor f limit r old → KeepsRest old new
-    → ¬ (old.count ≡ old.limit) → new.picked ≡ Some p → FollowsAmong f r r.rows new.rows.items new.dropped.items (Ok (Some p))
+    → ¬ (old.count ≡ old.limit) → new.picked ≡ Some p → new.remaining.items ≡ map (λ (k : Kept). k.at.place) new.rows.items
+    → FollowsAmong f r r.rows new.rows.items new.dropped.items (Ok (Some p))
     → (row : InfeasibleRow) × (row.place ≡ p.at.place) × (row.violation ≡ p.violation) × (new.dropped.items ≡ batch.dropped f r) × IsPricing f limit r row 0 new
-picks f limit r old new p h k below e a =
+    × (refusal (looked_rows f limit r) ≡ None)
+picks f limit r old new p h k below e n a =
     let x = picked_has f r a.0 a.1 a.2 in
     let less = less_one (staying f r) x.0 a.0.place x.1 x.2 in
     let short = filter_short (is_attractive f r) r.rows in
@@ -125,6 +135,7 @@ picks f limit r old new p h k below e a =
           few = h.limited.few;
         };
         rows = a.4;
+        remaining = n ∙ fresh_places f r new.rows.items (rest_of f r a.0) a.4;
         picked = (p, e, a.3);
         priced = record { at = λ slice l. absurd (omega arith) };
         room = record {
@@ -135,34 +146,75 @@ picks f limit r old new p h k below e a =
           slices = ap (λ v. length v.items) k.alpha ∙ room.slices ∙ sym (ap (λ v. slices (length v.items)) k.stands);
         };
       },
+      looked_fit f limit r (ne_eqb r.count limit (λ s. below (h.limited.count_is ∙ s ∙ sym h.limited.limit_is))) a.6,
     )
 
 -- ---- the batch stops
 stopped : (f : Form) (limit : ℕ) (r : Reached) (old new : Minor) → IsFreshMinor f limit r old → new.head ≡ old.head → new.stands ≡ old.stands
-    → new.reduced ≡ old.reduced → IsStopped f r new
-stopped f limit r old new h a b c = record {
+    → new.reduced ≡ old.reduced → new.remaining.items ≡ places_left limit r → (r.count ≡ limit → AreFreshRows f r new.rows.items r.rows)
+    → IsStopped f limit r new
+stopped f limit r old new h a b c left rows = record {
   reached = h.reached;
   head = ap (λ v. v.items) a ∙ h.head;
   stands = ap (λ v. v.items) b ∙ h.stands;
   reduced = ap (λ v. v.items) c ∙ h.reduced;
+  remaining = left;
+  rows = rows;
 }
 
 pub stops_at_limit : (f : Form) (limit : ℕ) (r : Reached) (old new : Minor) → IsFreshMinor f limit r old → new.head ≡ old.head → new.stands ≡ old.stands
-    → new.reduced ≡ old.reduced → old.count ≡ old.limit → new.dropped.items ≡ [] → Stops f limit r new.dropped.items × IsStopped f r new
-stops_at_limit f limit r old new h a b c e d =
-    let met : r.count ≡ limit = sym h.limited.count_is ∙ e ∙ h.limited.limit_is in (
-      inl (ap (λ t. cond t AtLimit (with_rows f r (ordered is_chosen_before (filter_map (row_now f r) (staying f r))))) (eq-eqb r.count limit met), d),
-      stopped f limit r old new h a b c,
+    → new.reduced ≡ old.reduced → new.remaining ≡ old.remaining → new.rows ≡ old.rows → old.count ≡ old.limit → new.dropped.items ≡ []
+    → Stops f limit r new.dropped.items × IsStopped f limit r new × (refusal (looked_rows f limit r) ≡ None)
+stops_at_limit f limit r old new h a b c k l e d =
+    let met : r.count ≡ limit = sym h.limited.count_is ∙ e ∙ h.limited.limit_is in
+    let here : nat_eq r.count limit ≡ true = eq-eqb r.count limit met in (
+      inl (ap (λ t. cond t AtLimit (with_rows f r (ordered is_chosen_before (filter_map (row_now f r) (staying f r))))) here, d),
+      stopped f limit r old new h a b c (ap (λ v. v.items) k ∙ h.remaining ∙ sym (ap (λ t. cond t (places r.rows) []) here))
+          (λ m. subst (λ ks. AreFreshRows f r ks r.rows) (sym (ap (λ v. v.items) l)) h.rows),
+      ap (λ t. refusal (row_script f r.basis r.fresh (cond t [] (places r.rows)))) here,
     )
 
 pub stops_without_rows : (f : Form) (limit : ℕ) (r : Reached) (old new : Minor) → IsFreshMinor f limit r old → new.head ≡ old.head → new.stands ≡ old.stands
-    → new.reduced ≡ old.reduced → ¬ (old.count ≡ old.limit) → FollowsAmong f r r.rows new.rows.items new.dropped.items (Ok None)
-    → Stops f limit r new.dropped.items × IsStopped f r new
-stops_without_rows f limit r old new h a b c below e =
-    let unmet : nat_eq r.count limit ≡ false = ne_eqb r.count limit (λ s. below (h.limited.count_is ∙ s ∙ sym h.limited.limit_is)) in (
+    → new.reduced ≡ old.reduced → new.remaining.items ≡ [] → ¬ (old.count ≡ old.limit) → FollowsAmong f r r.rows new.rows.items new.dropped.items (Ok None)
+    → Stops f limit r new.dropped.items × IsStopped f limit r new × (refusal (looked_rows f limit r) ≡ None)
+stops_without_rows f limit r old new h a b c k below e =
+    let other : ¬ (r.count ≡ limit) = λ s. below (h.limited.count_is ∙ s ∙ sym h.limited.limit_is) in
+    let unmet : nat_eq r.count limit ≡ false = ne_eqb r.count limit other in (
       inr (
         ap (λ t. cond t AtLimit (with_rows f r (ordered is_chosen_before (filter_map (row_now f r) (staying f r))))) unmet ∙ ap (with_rows f r) e.0,
         e.1,
       ),
-      stopped f limit r old new h a b c,
+      stopped f limit r old new h a b c (k ∙ sym (ap (λ t. cond t (places r.rows) []) unmet)) (λ m. absurd (other m)),
+      looked_fit f limit r unmet e.2,
     )
+
+-- ---- a row is refused: all is as before but the scratch lists
+pub refused_keeps : (f : Form) (limit : ℕ) (r : Reached) (old new : Minor) → IsFreshMinor f limit r old → KeepsRest old new → new.rows ≡ old.rows
+    → new.remaining ≡ old.remaining → IsFreshMinor f limit r new
+refused_keeps f limit r old new h k l g =
+    let room = h.room in
+    let nows = room.nows in let dropped = room.dropped in let remaining = room.remaining in let steps = room.steps in
+    let kn = k.nows in let kd = k.dropped in let kr = k.remaining in
+    let same_len : vec_len new.steps ≡ vec_len old.steps = ap vec_len k.steps in
+    let same_cap : vec_capacity new.steps ≡ vec_capacity old.steps = ap vec_capacity k.steps in
+    record {
+      reached = h.reached;
+      head = ap (λ v. v.items) k.head ∙ h.head;
+      stands = ap (λ v. v.items) k.stands ∙ h.stands;
+      reduced = ap (λ v. v.items) k.reduced ∙ h.reduced;
+      limited = record {
+        count_is = k.count ∙ h.limited.count_is;
+        limit_is = k.limit ∙ h.limited.limit_is;
+        most = h.limited.most;
+        few = h.limited.few;
+      };
+      rows = subst (λ ks. AreFreshRows f r ks r.rows) (sym (ap (λ v. v.items) l)) h.rows;
+      remaining = ap (λ v. v.items) g ∙ h.remaining;
+      room = record {
+        nows = omega (arith, nows, kn);
+        dropped = omega (arith, dropped, kd);
+        remaining = omega (arith, remaining, kr);
+        steps = omega (arith, steps, same_len, same_cap);
+        slices = ap (λ v. length v.items) k.alpha ∙ room.slices ∙ sym (ap (λ v. slices (length v.items)) k.stands);
+      };
+    }

@@ -33,7 +33,7 @@ before_by f n ks [] i x j d h a l e m = absurd (omega arith)
 before_by f n ks (y ∷ ys) zero x j d h a l e m = absurd (omega arith)
 before_by f n [] (y ∷ ys) (suc i) x j d h a l e m = absurd h
 before_by f n (k ∷ ks) (y ∷ ys) (suc i) x zero d h a l e m =
-    λ s. apart_from ys y.place x a.0 (has_from ys x (i, omega arith, e)) (sym s ∙ h.0.place)
+    λ s. apart_from ys y.place x a.0 (has_from ys x (i, omega arith, e)) (sym s ∙ h.0.known.place)
 before_by f n (k ∷ ks) (y ∷ ys) (suc i) x (suc j) d h a l e m = before_by f n ks ys i x j d h.1 a.1 (omega arith) e (omega arith)
 
 -- ---- in a Minor behind a step
@@ -52,7 +52,7 @@ pub has_nth : (f : Form) (limit : ℕ) (m : batch.Minor) (next : Reached) (i j p
     → IsRowOf next i place → HasRowAt place minor.rows.items
 has_nth f limit m next i j place minor h o =
     let s = nth_row f limit m next i j place minor h o in
-    (i, s.0, (s.1, s.2, s.3.place ∙ o.3))
+    (i, s.0, (s.1, s.2, s.3.known.place ∙ o.3))
 
 pub first_is : (f : Form) (limit : ℕ) (m : batch.Minor) (next : Reached) (i j place first : ℕ) (minor : Minor) → IsStepping f limit m next i j minor
     → IsRowOf next i place → IsFirstAt place minor.rows.items first → first ≡ i
@@ -62,7 +62,7 @@ first_is f limit m next i j place first minor h o a =
     (λ (l : first < i). absurd (before_by f next minor.rows.items next.rows i o.0 first s.0 h.reached_rows (next_apart f limit m next i j minor h) o.1 o.2 l
     (a.at s.0 ∙ sym o.3)))
     (λ (l : i ≤ first). ⊎_elim
-    (λ (b : i < first). absurd (a.before i s.0 b (ap (λ (k : Kept). k.at.place) s.2 ∙ s.3.place ∙ o.3)))
+    (λ (b : i < first). absurd (a.before i s.0 b (ap (λ (k : Kept). k.at.place) s.2 ∙ s.3.known.place ∙ o.3)))
     (λ (b : first ≤ i). let same : first ≡ i = omega arith in same)
     (cases_lt i first))
     (cases_lt first i)

@@ -25,9 +25,10 @@ use Rattle.pami_form.specs.declared.form.Form.{Form as ProgramForm}
 use Rattle.pami_state.specs.State.{basis_of}
 use Rattle.pami_state.specs.Columns.{rows_of}
 use Rattle.pami_state.specs.declared.state.State.{State}
-use Rattle.pami_minor.specs.Steps.{form_of}
-use Rattle.pami_minor.specs.Fresh.{AreApart}
-use Rattle.pami_minor.specs.Opening.{open_by, first_reached, AreKnownRows}
+use Rattle.pami_form.specs.FormOf.{form_of}
+use Rattle.pami_minor.specs.Picks.{remaining_of}
+use Rattle.pami_minor.specs.Fresh.{AreKnownRows, AreApart}
+use Rattle.pami_minor.specs.Opening.{open_by, first_reached}
 use Rattle.pami_minor.proofs.Places.{apart_from}
 
 -- ---- distinct places
@@ -107,7 +108,7 @@ chosen_apart f b s weights most =
 pub known_rows : (form : ProgramForm) (st : State) (s : Fresh) (most : ℕ) (xs : List InfeasibleRow)
     → ((p : ℕ) → p < rows_of form.columns → get st.values p ≡ value_at_place (basis_of st) s p)
     → ((x : InfeasibleRow) → Has xs x → x.place < rows_of form.columns)
-    → AreKnownRows (form_of form) (first_reached form st s most) (map (open_by form st) (map chosen_row xs)) xs
+    → AreKnownRows (form_of form) (first_reached form st s most) (map remaining_of (map (open_by form st) (map chosen_row xs))) xs
 known_rows form st s most [] v l = tt
 known_rows form st s most (x ∷ xs) v l = (
   record { place = refl; merit = refl; bounds = refl; value = v x.place (l x (inl refl)); weight = refl },

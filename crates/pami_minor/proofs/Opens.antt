@@ -11,7 +11,7 @@ use Rattle.pami_theory.specs.Choice.{InfeasibleRow, chosen}
 use Rattle.pami_theory.proofs.Members.{contains_from}
 use Rattle.pami_theory.proofs.Solved.{only_fresh}
 use Rattle.pami_theory.proofs.Tables.{tabled_at, tabled_length}
-use Rattle.pami_method.specs.Batch.{Reached}
+use Rattle.pami_method.specs.Batch.{Reached, places}
 use Rattle.pami_price.specs.Slices.{slices}
 use Rattle.pami_chuzr.specs.Choice.{chosen_row}
 use Rattle.pami_chuzr.specs.declared.row.ChosenRow.{ChosenRow}
@@ -23,11 +23,11 @@ use Rattle.pami_state.proofs.Formed.{variables_are}
 use Rattle.pami_deferral.proofs.Insides.{chosen_place}
 use Rattle.pami_minor.specs.declared.kept.Kept.{Kept}
 use Rattle.pami_minor.specs.declared.minor.Minor.{Minor}
-use Rattle.pami_minor.specs.Picks.{HasRowAt}
-use Rattle.pami_minor.specs.Steps.{form_of}
-use Rattle.pami_minor.specs.Fresh.{IsFreshRow, AreFreshRows, IsFreshMinor}
+use Rattle.pami_minor.specs.Picks.{remaining_of, HasRowAt}
+use Rattle.pami_form.specs.FormOf.{form_of}
+use Rattle.pami_minor.specs.Fresh.{IsKnownRow, AreKnownRows, IsFreshRow, AreFreshRows, IsFreshMinor}
 use Rattle.pami_minor.specs.Behind.{IsRowOf, IsFirstAt}
-use Rattle.pami_minor.specs.Opening.{open_by, IsOpenable, first_reached, IsKnownRow, AreKnownRows, IsOpening}
+use Rattle.pami_minor.specs.Opening.{open_by, IsOpenable, first_reached, IsOpening}
 use Rattle.pami_minor.proofs.NextRow.{KeepsRest}
 use Rattle.pami_minor.proofs.Nth.{before_by}
 use Rattle.pami_minor.proofs.OpeningRows.{chosen_apart, known_rows, all_places}
@@ -43,8 +43,14 @@ pub record HasOpened (form : ProgramForm) (st : State) (rows : List ChosenRow) (
   pub nows : length rows ≤ vec_capacity minor.nows
   pub dropped : length rows ≤ vec_capacity minor.dropped
   pub remaining : length rows ≤ vec_capacity minor.remaining
+  pub places_are : minor.remaining.items ≡ map (λ (k : Kept). k.at.place) minor.rows.items
   pub steps : vec_len minor.steps + length rows ≤ vec_capacity minor.steps
   pub slices_are : length minor.alpha.items ≡ slices (length minor.stands.items)
+
+opened_places : (form : ProgramForm) (st : State) (xs : List InfeasibleRow)
+    → map (λ (k : Kept). k.at.place) (map (open_by form st) (map chosen_row xs)) ≡ places xs
+opened_places form st [] = refl
+opened_places form st (x ∷ xs) = ap (λ ps. x.place ∷ ps) (opened_places form st xs)
 
 pub opens : (form : ProgramForm) (st : State) (rows : List ChosenRow) (left : ℕ) (s : Fresh) (most : ℕ) (minor : Minor) → IsOpenable form st rows left
     → IsFresh (form_of form) (basis_of st) s → rows ≡ map chosen_row (chosen (form_of form) (basis_of st) s st.weights most)
@@ -70,12 +76,14 @@ opens form st rows left s most minor o fresh e h =
       limited = record { count_is = h.count; limit_is = h.limit; most = omega arith; few = o.few };
       within = omega arith;
       fresh_rows = tt;
-      known_rows = subst (λ (ks : List Kept). AreKnownRows f (first_reached form st s most) ks xs)
+      known_rows = subst (λ (ks : List Kept). AreKnownRows f (first_reached form st s most) (map remaining_of ks) xs)
           (sym (h.rows_are ∙ ap (λ (rs : List ChosenRow). map (open_by form st) rs) e))
           (known_rows form st s most xs
           (λ p l. ap (λ vs. get vs p) o.solved.values ∙ tabled_at (rows_of form.columns) (value_at_place b o.solved.fresh) p zero_f l
           ∙ ap (λ (x : Fresh). value_at_place b x p) same)
           (λ x m. chosen_place f b s st.weights most x (contains_from xs x m)));
+      remaining = h.places_are ∙ ap (map (λ (k : Kept). k.at.place)) (h.rows_are ∙ ap (λ (rs : List ChosenRow). map (open_by form st) rs) e)
+          ∙ opened_places form st xs;
       room = record {
         nows = omega (arith, nows, count);
         dropped = omega (arith, dropped, count);
@@ -110,18 +118,18 @@ head_known form st rows left k o = λ p d l.
 
 -- ---- a row of the inverse that is taken in
 nth_known : (f : Form) (r : Reached) (ks : List Kept) (xs : List InfeasibleRow) (i : ℕ) (x : InfeasibleRow) → AreFreshRows f r (take i ks) (take i xs)
-    → AreKnownRows f r (drop i ks) (drop i xs) → i < length xs → get_or xs i x ≡ x → (k : Kept) × (i < length ks) × (get_or ks i k ≡ k) × IsKnownRow f r k x
+    → AreKnownRows f r (map remaining_of (drop i ks)) (drop i xs) → i < length xs → get_or xs i x ≡ x → (k : Kept) × (i < length ks) × (get_or ks i k ≡ k) × IsKnownRow f r (remaining_of k) x
 nth_known f r ks [] i x h a l e = absurd (omega arith)
 nth_known f r [] (y ∷ ys) zero x h a l e = absurd a
-nth_known f r (k ∷ ks) (y ∷ ys) zero x h a l e = (k, omega arith, refl, subst (IsKnownRow f r k) e a.0)
+nth_known f r (k ∷ ks) (y ∷ ys) zero x h a l e = (k, omega arith, refl, subst (IsKnownRow f r (remaining_of k)) e a.0)
 nth_known f r [] (y ∷ ys) (suc i) x h a l e = absurd h
 nth_known f r (k ∷ ks) (y ∷ ys) (suc i) x h a l e =
     let s = nth_known f r ks ys i x h.1 a (omega arith) e in
     (s.0, (let m = s.1 in omega arith), s.2, s.3)
 
 set_known : (f : Form) (r : Reached) (ks : List Kept) (xs : List InfeasibleRow) (i : ℕ) (x : InfeasibleRow) (k : Kept)
-    → AreFreshRows f r (take i ks) (take i xs) → AreKnownRows f r (drop i ks) (drop i xs) → i < length xs → get_or xs i x ≡ x → IsFreshRow f r k x
-    → AreFreshRows f r (take (suc i) (set ks i k)) (take (suc i) xs) × AreKnownRows f r (drop (suc i) (set ks i k)) (drop (suc i) xs)
+    → AreFreshRows f r (take i ks) (take i xs) → AreKnownRows f r (map remaining_of (drop i ks)) (drop i xs) → i < length xs → get_or xs i x ≡ x → IsFreshRow f r k x
+    → AreFreshRows f r (take (suc i) (set ks i k)) (take (suc i) xs) × AreKnownRows f r (map remaining_of (drop (suc i) (set ks i k))) (drop (suc i) xs)
 set_known f r ks [] i x k h a l e w = absurd (omega arith)
 set_known f r [] (y ∷ ys) zero x k h a l e w = absurd a
 set_known f r (j ∷ ks) (y ∷ ys) zero x k h a l e w = ((subst (IsFreshRow f r k) (sym e) w, tt), a.1)
@@ -154,21 +162,18 @@ with_row k rho = record { merit = k.merit; bounds = k.bounds; at = record { plac
 
 pub known_more : (f : Form) (limit : ℕ) (r : Reached) (n place : ℕ) (minor new : Minor) (rows : List Kept) (first : ℕ) (old : Kept) (rho : List Fraction)
     → IsOpening f limit r n minor → IsRowOf r n place → rho ≡ row_at r.fresh place → rows ≡ minor.rows.items → IsFirstAt place rows first
-    → old ≡ get_or minor.rows.items first old → KeepsRest minor new → new.rows.items ≡ set minor.rows.items first (with_row old rho)
+    → old ≡ get_or minor.rows.items first old → KeepsRest minor new → new.remaining ≡ minor.remaining
+    → new.rows.items ≡ set minor.rows.items first (with_row old rho)
     → IsOpening f limit r (n + 1) new
-known_more f limit r n place minor new rows first old rho h o w e a read k s =
+known_more f limit r n place minor new rows first old rho h o w e a read k g s =
     let z : suc n ≡ n + 1 = omega arith in
     let here : first ≡ n = first_known f limit r n place first minor h o (subst (λ ks. IsFirstAt place ks first) e a) in
     let t = nth_known f r minor.rows.items r.rows n o.0 h.fresh_rows h.known_rows o.1 o.2 in
     let same : old ≡ t.0 = read ∙ ap (λ q. get_or minor.rows.items q old) here ∙ get_or_default minor.rows.items n old t.0 t.1 ∙ t.2 in
-    let known : IsKnownRow f r old o.0 = subst (λ x. IsKnownRow f r x o.0) (sym same) t.3 in
+    let known : IsKnownRow f r (remaining_of old) o.0 = subst (λ x. IsKnownRow f r (remaining_of x) o.0) (sym same) t.3 in
     let put : Kept = with_row old rho in
     let row : IsFreshRow f r put o.0 = record {
-      place = known.place;
-      merit = known.merit;
-      bounds = known.bounds;
-      value = known.value;
-      weight = known.weight;
+      known = record { place = known.place; merit = known.merit; bounds = known.bounds; value = known.value; weight = known.weight };
       rho = w ∙ ap (row_at r.fresh) (sym o.3);
     } in
     let u = set_known f r minor.rows.items r.rows n o.0 put h.fresh_rows h.known_rows o.1 o.2 row in
@@ -192,8 +197,9 @@ known_more f limit r n place minor new rows first old rho h o w e a read k s =
       within = omega (arith, low);
       fresh_rows = subst (λ ks. AreFreshRows f r (take (n + 1) ks) (take (n + 1) r.rows)) items
           (subst (λ q. AreFreshRows f r (take q (set minor.rows.items n put)) (take q r.rows)) z u.0);
-      known_rows = subst (λ ks. AreKnownRows f r (drop (n + 1) ks) (drop (n + 1) r.rows)) items
-          (subst (λ q. AreKnownRows f r (drop q (set minor.rows.items n put)) (drop q r.rows)) z u.1);
+      known_rows = subst (λ ks. AreKnownRows f r (map remaining_of (drop (n + 1) ks)) (drop (n + 1) r.rows)) items
+          (subst (λ q. AreKnownRows f r (map remaining_of (drop q (set minor.rows.items n put))) (drop q r.rows)) z u.1);
+      remaining = ap (λ v. v.items) g ∙ h.remaining;
       room = record {
         nows = omega (arith, nows, kn);
         dropped = omega (arith, dropped, kd);
@@ -205,7 +211,7 @@ known_more f limit r n place minor new rows first old rho h o w e a read k s =
 
 -- ---- all rows taken in
 all_known : (f : Form) (r : Reached) (ks : List Kept) (xs : List InfeasibleRow) → AreFreshRows f r (take (length xs) ks) (take (length xs) xs)
-    → AreKnownRows f r (drop (length xs) ks) (drop (length xs) xs) → AreFreshRows f r ks xs
+    → AreKnownRows f r (map remaining_of (drop (length xs) ks)) (drop (length xs) xs) → AreFreshRows f r ks xs
 all_known f r [] [] h a = tt
 all_known f r [] (x ∷ xs) h a = absurd h
 all_known f r (k ∷ ks) [] h a = absurd a
@@ -219,5 +225,6 @@ fresh_opened f limit r minor h = record {
   reduced = h.reduced;
   limited = h.limited;
   rows = all_known f r minor.rows.items r.rows h.fresh_rows h.known_rows;
+  remaining = h.remaining;
   room = h.room;
 }

@@ -33,12 +33,22 @@ pub apart_from : (xs : List InfeasibleRow) (p : ℕ) (x : InfeasibleRow) → is_
 apart_from xs p x e h k = true≢false (sym (has_among xs x h) ∙ ap (λ q. is_among q (places xs)) k ∙ e)
 
 -- ---- a row that is found
+pub has_places : (xs : List InfeasibleRow) (x : InfeasibleRow) → Has xs x → Has (places xs) x.place
+has_places [] x h = absurd h
+has_places (y ∷ ys) x (inl e) = inl (ap (λ (z : InfeasibleRow). z.place) e)
+has_places (y ∷ ys) x (inr h) = inr (has_places ys x h)
+
+pub place_of_has : (xs : List InfeasibleRow) (p : ℕ) → Has (places xs) p → (x : InfeasibleRow) × Has xs x × (x.place ≡ p)
+place_of_has [] p h = absurd h
+place_of_has (x ∷ xs) p (inl e) = (x, inl refl, e)
+place_of_has (x ∷ xs) p (inr m) = let s = place_of_has xs p m in (s.0, inr s.1, s.2)
+
 pub find_fresh : (f : Form) (r : Reached) (ks : List Kept) (xs : List InfeasibleRow) (x : InfeasibleRow) → AreFreshRows f r ks xs → Has xs x
     → (i : ℕ) × (k : Kept) × IsRowAt x.place ks i k
 find_fresh f r [] [] x h m = absurd m
 find_fresh f r [] (y ∷ ys) x h m = absurd h
 find_fresh f r (k ∷ ks) [] x h m = absurd h
-find_fresh f r (k ∷ ks) (y ∷ ys) x h (inl e) = (0, k, (omega arith, refl, h.0.place ∙ ap (λ (z : InfeasibleRow). z.place) e))
+find_fresh f r (k ∷ ks) (y ∷ ys) x h (inl e) = (0, k, (omega arith, refl, h.0.known.place ∙ ap (λ (z : InfeasibleRow). z.place) e))
 find_fresh f r (k ∷ ks) (y ∷ ys) x h (inr m) =
     let s = find_fresh f r ks ys x h.1 m in
     (suc s.0, s.1, (let l = s.2.0 in omega arith, s.2.1, s.2.2))
@@ -61,7 +71,7 @@ pub taken_fresh : (f : Form) (r : Reached) (ks : List Kept) (xs : List Infeasibl
 taken_fresh f r [] xs i k p h a m = absurd (let l = m.0 in omega arith)
 taken_fresh f r (j ∷ ks) [] i k p h a m = absurd h
 taken_fresh f r (j ∷ ks) (x ∷ xs) zero k p h a m =
-    let place : x.place ≡ p = sym h.0.place ∙ ap (λ (z : Kept). z.at.place) m.1 ∙ m.2 in
+    let place : x.place ≡ p = sym h.0.known.place ∙ ap (λ (z : Kept). z.at.place) m.1 ∙ m.2 in
     let gone : filter (λ (y : InfeasibleRow). not (nat_eq y.place p)) (x ∷ xs) ≡ xs =
     ap (λ b. cond (not b) (x ∷ filter (λ (y : InfeasibleRow). not (nat_eq y.place p)) xs) (filter (λ (y : InfeasibleRow). not (nat_eq y.place p)) xs)) (eq-eqb x.place p place)
     ∙ kept_all p xs (ap (λ q. is_among q (places xs)) (sym place) ∙ a.0) in
@@ -69,7 +79,7 @@ taken_fresh f r (j ∷ ks) (x ∷ xs) zero k p h a m =
 taken_fresh f r (j ∷ ks) (x ∷ xs) (suc i) k p h a m =
     let s = taken_fresh f r ks xs i k p h.1 a.1 (let l = m.0 in omega arith, m.1, m.2) in
     let other : nat_eq x.place p ≡ false = ne_eqb x.place p
-    (λ e. apart_from xs x.place s.1.0 a.0 s.1.1 (sym s.1.2.place ∙ m.2 ∙ sym e)) in
+    (λ e. apart_from xs x.place s.1.0 a.0 s.1.1 (sym s.1.2.known.place ∙ m.2 ∙ sym e)) in
     let there : filter (λ (y : InfeasibleRow). not (nat_eq y.place p)) (x ∷ xs) ≡ x ∷ filter (λ (y : InfeasibleRow). not (nat_eq y.place p)) xs =
     ap (λ b. cond (not b) (x ∷ filter (λ (y : InfeasibleRow). not (nat_eq y.place p)) xs) (filter (λ (y : InfeasibleRow). not (nat_eq y.place p)) xs)) other in
     (subst (AreFreshRows f r (j ∷ (take i ks ++ drop (suc i) ks))) (sym there) (h.0, s.0), (s.1.0, inr s.1.1, s.1.2))

@@ -1,16 +1,21 @@
 -- What a reach asks for, in a Minor behind a step.
-use Rattle.std.proofs.Common.{◌≡◌, ℕ, ◌/◌, ◌<◌, List, [], length, get_or, true, Some, sym, ap, ◌∙◌, subst, arith}
+use Rattle.std.proofs.Common.{◌≡◌, ℕ, ◌/◌, ◌<◌, List, [], length, get_or, true, Some, refl, sym, ap, ◌∙◌, subst, arith}
+use Rattle.std.specs.List.{Contains}
+use Rattle.pami_algebra.specs.Fraction.{Fraction}
 use Rattle.pami_frac.specs.declared.list.Entry.{Entry}
 use Rattle.pami_script.specs.Dense.{at}
 use Rattle.pami_theory.specs.Form.{Form, variables, zero_f}
-use Rattle.pami_theory.specs.Fresh.{row_at}
+use Rattle.pami_theory.specs.Fresh.{row_at, value_at_place}
+use Rattle.pami_theory.specs.Weights.{weight_at}
+use Rattle.pami_theory.specs.Choice.{InfeasibleRow}
+use Rattle.pami_theory.proofs.Members.{Has, contains_from}
 use Rattle.pami_theory.specs.Ratio.{Entering, row_entry, ratio_walk}
 use Rattle.pami_theory.specs.Step as theory
 use Rattle.pami_theory.specs.Step.{leaving_at, step_by}
 use Rattle.pami_theory.proofs.Candidates.{entered_by_walk}
 use Rattle.pami_theory.proofs.Steps.{entry_not_zero}
 use Rattle.pami_method.specs.Batch as batch
-use Rattle.pami_method.specs.Batch.{Reached}
+use Rattle.pami_method.specs.Batch.{Reached, places}
 use Rattle.pami_method.specs.Scripts.{is_nonbasic}
 use Rattle.pami_theory.specs.Basis.{stand_at}
 use Rattle.pami_method.proofs.Flips.{step_walk}
@@ -20,9 +25,13 @@ use Rattle.pami_deferral.specs.SolvedBatch.{IsSolvedPivot}
 use Rattle.pami_deferral.proofs.Chains.{pivot_links, next_basis}
 use Rattle.pami_deferral.proofs.Pivots.{step_place}
 use Rattle.pami_vec.specs.declared.step.Step.{Step}
+use Rattle.pami_minor.specs.declared.kept.Kept.{Kept}
+use Rattle.pami_minor.specs.declared.kept.Picked.{Picked}
 use Rattle.pami_minor.specs.declared.minor.Minor.{Minor}
 use Rattle.pami_minor.specs.Steps.{IsStepOf}
-use Rattle.pami_minor.specs.Fresh.{IsStepping}
+use Rattle.pami_minor.specs.Fresh.{IsFreshRow, IsPickedRow, IsStepping}
+use Rattle.pami_minor.specs.Behind.{IsBeforeReach}
+use Rattle.pami_minor.proofs.Places.{has_places}
 use Rattle.pami_minor.proofs.WalkedRow.{entering_nonbasic}
 use Rattle.pami_minor.proofs.Reaching.{in_slice}
 
@@ -86,3 +95,27 @@ pivot_nonzero f limit m next v z =
     entry_not_zero f m.reached.basis (leaving_at m.reached.fresh m.row.place m.row.violation) w.entering.variable k.candidate
     (ap (row_entry f (row_at m.reached.fresh m.row.place)) (sym (ap (λ (t : theory.Step). t.entering) w.by))
     ∙ ap (λ p. row_entry f (row_at m.reached.fresh p) m.step.entering) (sym (step_place f m next (pivot_links f limit m next v))) ∙ z)
+
+-- what is handed to a reach is what is solved at the basis before
+pub before_reach : (f : Form) (limit : ℕ) (m : batch.Minor) (next : Reached) (i j : ℕ) (minor : Minor) (s : Step) (pivot : Fraction) (p : Picked) (k : Kept)
+    (x : InfeasibleRow) → IsStepping f limit m next i j minor → IsStepOf f m.reached.basis m.reached.fresh m.step s
+    → pivot ≡ row_entry f (row_at m.reached.fresh m.step.place) m.step.entering → IsPickedRow m.reached m.row p → Has next.rows x → IsFreshRow f m.reached k x
+    → IsBeforeReach f limit m next s pivot p.at.rho p.at.weight k.at
+before_reach f limit m next i j minor s pivot p k x h st pv pk here row =
+    let same = step_place f m next (pivot_links f limit m next h.pivot) in
+    let there : x.place ≡ k.at.place = sym row.known.place in
+    record {
+      placed = h.reached.placed;
+      pivot = h.pivot;
+      remains = subst (Contains (places next.rows)) there (contains_from (places next.rows) x.place (has_places next.rows x here));
+      step_is = st;
+      alpha_pq_is = pv;
+      rho_p_is = pk.rho ∙ ap (row_at m.reached.fresh) (sym same);
+      weight_p_is = pk.weight ∙ ap (weight_at m.reached.weights) (sym same);
+      row_is = record {
+        place_is = refl;
+        value = row.known.value ∙ ap (value_at_place m.reached.basis m.reached.fresh) there;
+        weight = row.known.weight ∙ ap (weight_at m.reached.weights) there;
+        rho = row.rho ∙ ap (row_at m.reached.fresh) there;
+      };
+    }

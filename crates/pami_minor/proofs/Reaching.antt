@@ -1,5 +1,5 @@
 -- A row that remains is brought behind a step: what is worked out is what is solved at the next basis.
-use Rattle.std.proofs.Common.{◌≡◌, ℕ, ◌-◌, ◌*◌, ◌/◌, ◌<◌, ◌≤◌, ⊎_elim, true, not, cond, nat_eq, List, length, Some, Result, Ok, Err, refl, sym, ap, ◌∙◌, subst, arith, true≢false}
+use Rattle.std.proofs.Common.{◌≡◌, ℕ, ◌-◌, ◌*◌, ◌/◌, ◌<◌, ◌≤◌, ⊎_elim, true, not, cond, nat_eq, List, length, None, Some, Result, Ok, Err, refl, sym, ap, ◌∙◌, subst, arith, true≢false}
 use Rattle.std.proofs.lemmas.Option.{same_Some}
 use Rattle.std.proofs.lemmas.Bool.{cases_lt, lt-ltb, le-ltb, eq-eqb}
 use Rattle.pami_algebra.specs.Fraction.{Fraction}
@@ -23,9 +23,9 @@ use Rattle.pami_theory.specs.Step as theory_step
 use Rattle.pami_theory.specs.Step.{flips_change, theta}
 use Rattle.pami_theory.specs.Weights.{weight_at, lesser}
 use Rattle.pami_theory.specs.Choice.{InfeasibleRow}
-use Rattle.pami_theory.proofs.Members.{Has, contains_from, filter_has}
+use Rattle.pami_theory.proofs.Members.{Has, has_from, contains_from, filter_has}
 use Rattle.pami_method.specs.Batch as batch
-use Rattle.pami_method.specs.Batch.{Reached, staying}
+use Rattle.pami_method.specs.Batch.{Reached, places, staying}
 use Rattle.pami_method.specs.Task.{refusal}
 use Rattle.pami_method.specs.Scripts.{reach_script, is_nonbasic, nonbasic_in}
 use Rattle.pami_method.proofs.Values.{dot_value}
@@ -34,17 +34,15 @@ use Rattle.pami_price.specs.Agreement.{nonzero_entries}
 use Rattle.pami_price.proofs.Rows.{kept_value}
 use Rattle.pami_deferral.specs.Inside.{IsPlaced}
 use Rattle.pami_deferral.specs.Factored.{ReachedRow, reached_script}
-use Rattle.pami_deferral.proofs.Chains.{Links}
+use Rattle.pami_deferral.proofs.Chains.{Links, pivot_links}
 use Rattle.pami_deferral.proofs.KeptTurns.{row_is, weight_is}
-use Rattle.pami_deferral.proofs.Pivots.{weight_there, step_place, next_placed}
+use Rattle.pami_deferral.proofs.Pivots.{weight_there, next_placed}
 use Rattle.pami_deferral.proofs.ReachScripts.{reached_refusal, reached_fresh}
-use Rattle.pami_minor.specs.declared.kept.Kept.{Kept}
-use Rattle.pami_minor.specs.declared.kept.Picked.{Picked}
 use Rattle.pami_minor.specs.declared.row.Reached as program
 use Rattle.pami_minor.specs.Reach.{reach_by}
 use Rattle.pami_minor.specs.Steps.{IsStepOf}
-use Rattle.pami_minor.specs.Fresh.{IsFreshRow, IsPickedRow}
-use Rattle.pami_minor.specs.Behind.{FollowsReach}
+use Rattle.pami_minor.specs.Behind.{IsReachedRow, IsBeforeReach, FollowsReach}
+use Rattle.pami_minor.proofs.Places.{place_of_has}
 
 -- ---- the same operations
 dot_is : (f : theory.Form) (row column : List Fraction) (v : ℕ → Fraction) → length row ≡ f.rows → ((h : ℕ) → h < f.rows → get column h ≡ v h)
@@ -145,60 +143,71 @@ err_of : {A : Type 0} (s : Result A Refused) (d : Refused) → refusal s ≡ Som
 err_of (Ok x) d e = absurd (cc)
 err_of (Err r) d e = ap Err (same_Some r d e)
 
-pub reach_follows : (f : theory.Form) (limit : ℕ) (m : batch.Minor) (next : Reached) (x : InfeasibleRow) (place : ℕ) (column : List Fraction) (step : Step)
-    (pivot : Fraction) (p : Picked) (k : Kept) (result : Result program.Reached (Fault Refused)) → Links f m next → IsPlaced f m.reached → Has next.rows x
-    → x.place ≡ place → ((h : ℕ) → h < f.rows → get column h ≡ coefficient f m.step.entering h) → IsStepOf f m.reached.basis m.reached.fresh m.step step
-    → pivot ≡ row_entry f (row_at m.reached.fresh m.step.place) m.step.entering → IsPickedRow m.reached m.row p → IsFreshRow f m.reached k x
-    → FollowsBy (λ r. r) (reach_by column step pivot p.at.rho p.at.weight k.at) result → FollowsReach f m next place result
-reach_follows f limit m next x place column step pivot p k result links placed here e col st pv pk fresh o =
+-- with the row that remains there
+reach_behind : (f : theory.Form) (limit : ℕ) (m : batch.Minor) (next : Reached) (x : InfeasibleRow) (place : ℕ) (column : List Fraction) (step : Step)
+    (pivot : Fraction) (rho_p : List Fraction) (weight_p : ℕ) (row : program.Reached) (result : Result program.Reached (Fault Refused)) → Links f m next
+    → IsPlaced f m.reached → Has next.rows x → x.place ≡ place → ((h : ℕ) → h < f.rows → get column h ≡ coefficient f m.step.entering h)
+    → IsStepOf f m.reached.basis m.reached.fresh m.step step → pivot ≡ row_entry f (row_at m.reached.fresh m.step.place) m.step.entering
+    → rho_p ≡ row_at m.reached.fresh m.step.place → weight_p ≡ weight_at m.reached.weights m.step.place → IsReachedRow m.reached x.place row
+    → FollowsBy (λ r. r) (reach_by column step pivot rho_p weight_p row) result → FollowsReach f m next place result
+reach_behind f limit m next x place column step pivot rho_p weight_p row result links placed here e col st pv rp wp fresh o =
     let r : Reached = m.reached in
-    let t : theory_step.Step = m.step in
     let low : x.place < f.rows = (next_placed f m next links placed).rows x (contains_from next.rows x here) in
-    let same : t.place ≡ m.row.place = step_place f m next links in
-    let a : AreReach f r.basis r.fresh t x.place column step pivot p.at.rho k.at = record {
+    let a : AreReach f r.basis r.fresh m.step x.place column step pivot rho_p row = record {
       fresh = links.step.fresh;
       low = low;
       column_is = col;
       flips = st.flips;
       theta_is = st.theta_is;
       pivot_is = pv;
-      rho_p_is = pk.rho ∙ ap (row_at r.fresh) (sym same);
+      rho_p_is = rp;
       rho = fresh.rho;
       value = fresh.value;
     } in
-    go result a low same o
+    go result a low o
   where
-    go : (res : Result program.Reached (Fault Refused)) → AreReach f m.reached.basis m.reached.fresh m.step x.place column step pivot p.at.rho k.at
-        → x.place < f.rows → m.step.place ≡ m.row.place → FollowsBy (λ r. r) (reach_by column step pivot p.at.rho p.at.weight k.at) res
-        → FollowsReach f m next place res
-    go (Ok reached) a low same h =
+    go : (res : Result program.Reached (Fault Refused)) → AreReach f m.reached.basis m.reached.fresh m.step x.place column step pivot rho_p row
+        → x.place < f.rows → FollowsBy (λ r. r) (reach_by column step pivot rho_p weight_p row) res → FollowsReach f m next place res
+    go (Ok reached) a low h =
         let r : Reached = m.reached in
-        let script = sym (reach_is f r.basis r.fresh m.step x.place column step pivot p.at.rho p.at.weight k.at a)
+        let script = sym (reach_is f r.basis r.fresh m.step x.place column step pivot rho_p weight_p row a)
         ∙ ap (λ s. then s (λ (w : program.Reached). Ok (row_seen w))) h in
         let there = reached_fresh f m next x.place (row_seen reached) links low (left_out f limit m next x links here) script in
-        let rest = reach_rest f r.basis r.fresh m.step x.place column step pivot p.at.rho p.at.weight k.at reached a h in
+        let rest = reach_rest f r.basis r.fresh m.step x.place column step pivot rho_p weight_p row reached a h in
         let weight : reached.weight ≡ weight_at next.weights x.place =
         rest.1
-        ∙ ap (λ w. weight_beside w (row_entry f (row_at r.fresh x.place) m.step.entering) pivot p.at.weight) fresh.weight
-        ∙ ap (λ q. weight_beside (weight_at r.weights x.place) (row_entry f (row_at r.fresh x.place) m.step.entering) q p.at.weight)
+        ∙ ap (λ w. weight_beside w (row_entry f (row_at r.fresh x.place) m.step.entering) pivot weight_p) fresh.weight
+        ∙ ap (λ q. weight_beside (weight_at r.weights x.place) (row_entry f (row_at r.fresh x.place) m.step.entering) q weight_p)
         (pv ∙ ap (λ rs. row_entry f rs m.step.entering) (sym (row_is r m.step.place links.place)))
         ∙ ap (weight_beside (weight_at r.weights x.place) (row_entry f (row_at r.fresh x.place) m.step.entering) _)
-        (pk.weight ∙ ap (weight_at r.weights) (sym same) ∙ sym (weight_is r m.step.place links.place))
-        ∙ weight_there f m next x links placed low (left_out f limit m next x links here) in
-        record {
-          place_is = rest.0 ∙ fresh.place ∙ e;
-          value = there.0 ∙ ap (value_at_place next.basis next.fresh) e;
-          weight = weight ∙ ap (weight_at next.weights) e;
-          rho = there.1 ∙ ap (row_at next.fresh) e;
-        }
-    go (Err (faults.Named d)) a low same h =
+        (wp ∙ sym (weight_is r m.step.place links.place))
+        ∙ weight_there f m next x links placed low (left_out f limit m next x links here) in (
+          record {
+            place_is = rest.0 ∙ fresh.place_is ∙ e;
+            value = there.0 ∙ ap (value_at_place next.basis next.fresh) e;
+            weight = weight ∙ ap (weight_at next.weights) e;
+            rho = there.1 ∙ ap (row_at next.fresh) e;
+          },
+          subst (λ q. refusal (reach_script f r.basis r.fresh m.step (theta f r.basis r.fresh m.step) q) ≡ None) e
+              (sym (reached_refusal f r.basis r.fresh m.step (theta f r.basis r.fresh m.step) x.place) ∙ ap refusal script),
+        )
+    go (Err (faults.Named d)) a low h =
         let r : Reached = m.reached in
-        let script = sym (reach_is f r.basis r.fresh m.step x.place column step pivot p.at.rho p.at.weight k.at a)
+        let script = sym (reach_is f r.basis r.fresh m.step x.place column step pivot rho_p weight_p row a)
         ∙ ap (λ s. then s (λ (w : program.Reached). Ok (row_seen w))) h in
         subst (λ q. reach_script f r.basis r.fresh m.step (theta f r.basis r.fresh m.step) q ≡ Err d) e
         (err_of (reach_script f r.basis r.fresh m.step (theta f r.basis r.fresh m.step) x.place) d
         (sym (reached_refusal f r.basis r.fresh m.step (theta f r.basis r.fresh m.step) x.place) ∙ ap refusal script))
-    go (Err faults.OutOfMemory) a low same h = tt
+    go (Err faults.OutOfMemory) a low h = tt
+
+pub reach_follows : (f : theory.Form) (limit : ℕ) (m : batch.Minor) (next : Reached) (column : List Fraction) (step : Step) (pivot : Fraction)
+    (rho_p : List Fraction) (weight_p : ℕ) (row : program.Reached) (result : Result program.Reached (Fault Refused))
+    → IsBeforeReach f limit m next step pivot rho_p weight_p row → ((h : ℕ) → h < f.rows → get column h ≡ coefficient f m.step.entering h)
+    → FollowsBy (λ r. r) (reach_by column step pivot rho_p weight_p row) result → FollowsReach f m next row.place result
+reach_follows f limit m next column step pivot rho_p weight_p row result b col o =
+    let x = place_of_has next.rows row.place (has_from (places next.rows) row.place b.remains) in
+    reach_behind f limit m next x.0 row.place column step pivot rho_p weight_p row result (pivot_links f limit m next b.pivot) b.placed x.1 x.2 col b.step_is
+    b.alpha_pq_is b.rho_p_is b.weight_p_is (subst (λ p. IsReachedRow m.reached p row) (sym x.2) b.row_is) o
 
 -- ---- the pivot, in its slice
 above : (a b x : ℕ) → x < a → x < b → x < lesser a b

@@ -41,20 +41,23 @@ put_fresh f limit m next i j minor old reached h o k w =
     let apart = left_out f limit m next o.0 links (has_from next.rows o.0 (i, o.1, o.2)) in
     let same = sym o.3 in
     record {
-      place = same;
-      merit = k.merit;
-      bounds = k.bounds ∙ ap (limits f) (sym (ap (λ (b : Basis). head_at b o.0.place) h.pivot.behind.basis ∙ head_elsewhere m.reached.basis m.step o.0.place apart));
-      value = w.value ∙ ap (value_at_place next.basis next.fresh) same;
-      weight = w.weight ∙ ap (weight_at next.weights) same;
+      known = record {
+        place = same;
+        merit = k.known.merit;
+        bounds = k.known.bounds ∙ ap (limits f) (sym (ap (λ (b : Basis). head_at b o.0.place) h.pivot.behind.basis ∙ head_elsewhere m.reached.basis m.step o.0.place apart));
+        value = w.value ∙ ap (value_at_place next.basis next.fresh) same;
+        weight = w.weight ∙ ap (weight_at next.weights) same;
+      };
       rho = w.rho ∙ ap (row_at next.fresh) same;
     }
 
 pub reached_more : (f : Form) (limit : ℕ) (m : batch.Minor) (next : Reached) (i j : ℕ) (minor new : Minor) (rows : List Kept) (first : ℕ) (old : Kept)
     (reached : program.Reached) → IsStepping f limit m next i j minor → (o : IsRowOf next i reached.place) → IsReachedRow next reached.place reached
     → rows ≡ minor.rows.items → IsFirstAt reached.place rows first → old ≡ get_or minor.rows.items first old → KeepsRest minor new → new.picked ≡ minor.picked
+    → new.remaining ≡ minor.remaining
     → new.rows.items ≡ set minor.rows.items first (record { merit = old.merit; bounds = old.bounds; at = reached })
     → IsStepping f limit m next (i + 1) j new
-reached_more f limit m next i j minor new rows first old reached h o w e a read k p s =
+reached_more f limit m next i j minor new rows first old reached h o w e a read k p g s =
     let z : suc i ≡ i + 1 = omega arith in
     let here : first ≡ i = first_is f limit m next i j reached.place first minor h o (subst (λ ks. IsFirstAt reached.place ks first) e a) in
     let row = put_fresh f limit m next i j minor old reached h o
@@ -83,6 +86,7 @@ reached_more f limit m next i j minor new rows first old reached h o w e a read 
           (subst (λ n. AreFreshRows f next (take n (set minor.rows.items i put)) (take n next.rows)) z t.0);
       other_rows = subst (λ ks. AreFreshRows f m.reached (drop (i + 1) ks) (drop (i + 1) next.rows)) items
           (subst (λ n. AreFreshRows f m.reached (drop n (set minor.rows.items i put)) (drop n next.rows)) z t.1);
+      remaining = ap (λ v. v.items) g ∙ h.remaining;
       shifted = record {
         by_variable = ap (λ v. length v.items) k.reduced ∙ h.shifted.by_variable;
         at = λ v l. ap (λ x. get x.items v) k.reduced ∙ h.shifted.at v l;

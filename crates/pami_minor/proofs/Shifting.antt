@@ -1,5 +1,5 @@
 -- A slice of the reduced costs behind a step: what is worked out is what is solved at the next basis.
-use Rattle.std.proofs.Common.{◌≡◌, ℕ, zero, suc, ◌+◌, ◌-◌, ◌<◌, ◌≤◌, Bool, true, false, cond, nat_eq, List, [], ◌∷◌, ◌++◌, Result, Ok, Err, refl, sym, ap, ◌∙◌, subst, arith, true≢false}
+use Rattle.std.proofs.Common.{◌≡◌, ℕ, zero, suc, ◌+◌, ◌-◌, ◌<◌, ◌≤◌, Bool, true, false, cond, nat_eq, List, [], ◌∷◌, ◌++◌, None, Result, Ok, Err, refl, sym, ap, ◌∙◌, subst, arith, true≢false}
 use Rattle.std.specs.List.{filter, range_with_len}
 use Rattle.std.proofs.lemmas.List.{append_assoc}
 use Rattle.pami_algebra.specs.Fraction.{Fraction}
@@ -8,6 +8,7 @@ use Rattle.pami_frac.specs.declared.list.Entry.{Entry}
 use Rattle.pami_script.specs.Script.{then, each_member, sub_product}
 use Rattle.pami_script.specs.Dense.{at}
 use Rattle.pami_script.proofs.Scripts.{then_go, then_stop}
+use Rattle.pami_method.specs.Task.{refusal}
 use Rattle.pami_theory.specs.Ratio.{toward}
 use Rattle.pami_theory.specs.declared.words.Side.{Side}
 use Rattle.pami_vec.specs.declared.step.Step.{Step}
@@ -35,8 +36,8 @@ cost_passed p g all kept v n h l e =
     ∙ ap (λ b. kept ++ cond b (record { place = v; value = g v } ∷ rest) rest) e
 
 -- ---- the outcome of a slice
-abbrev IsShifting : (ℕ → Result Fraction Refused) → (ℕ → Bool) → (ℕ → Fraction) → List ℕ → List ℕ → ℕ → Result (List Entry) Refused → Type 0
-IsShifting shift p h vs ws k (Ok es) = es ≡ costs p h vs
+abbrev pub IsShifting : (ℕ → Result Fraction Refused) → (ℕ → Bool) → (ℕ → Fraction) → List ℕ → List ℕ → ℕ → Result (List Entry) Refused → Type 0
+IsShifting shift p h vs ws k (Ok es) = (es ≡ costs p h vs) × (refusal (each_member (λ i u. shift u) k ws) ≡ None)
 IsShifting shift p h vs ws k (Err d) = each_member (λ i u. shift u) k ws ≡ Err d
 
 -- what is known of a variable: it is shifted exactly where it was nonbasic and doesn't enter, and its operation is the method's
@@ -46,12 +47,19 @@ pub record IsShiftOf (shift : ℕ → Result Fraction Refused) (alpha : List Ent
   pub script : p u ≡ true → sub_product (g u) step.tau (toward side (at alpha u)) ≡ shift u
   pub value : (y : Fraction) → p u ≡ true → shift u ≡ Ok y → y ≡ h u
 
+none_more : (y : Fraction) (rest : Result (List Fraction) Refused) → refusal rest ≡ None → refusal (then rest (λ zs. Ok (y ∷ zs))) ≡ None
+none_more y (Ok zs) e = refl
+none_more y (Err d) e = e
+
 kept_more : (shift : ℕ → Result Fraction Refused) (p : ℕ → Bool) (h : ℕ → Fraction) (v k : ℕ) (vs ws : List ℕ) (s : Result Fraction Refused)
     (rest : Result (List Entry) Refused) → s ≡ shift v → ((y : Fraction) → shift v ≡ Ok y → y ≡ h v) → IsShifting shift p h vs ws (suc k) rest
     → p v ≡ true → IsShifting shift p h (v ∷ vs) (v ∷ ws) k (then s (λ cost. then rest (λ es. Ok (record { place = v; value = cost } ∷ es))))
-kept_more shift p h v k vs ws (Ok y) (Ok es) e val i t =
-    ap (λ z. record { place = v; value = z } ∷ es) (val y (sym e)) ∙ ap (λ zs. record { place = v; value = h v } ∷ zs) i
-    ∙ sym (ap (λ b. cond b (record { place = v; value = h v } ∷ costs p h vs) (costs p h vs)) t)
+kept_more shift p h v k vs ws (Ok y) (Ok es) e val i t = (
+  ap (λ z. record { place = v; value = z } ∷ es) (val y (sym e)) ∙ ap (λ zs. record { place = v; value = h v } ∷ zs) i.0
+      ∙ sym (ap (λ b. cond b (record { place = v; value = h v } ∷ costs p h vs) (costs p h vs)) t),
+  ap (λ (r : Result Fraction Refused). refusal (then r (λ z. then (each_member (λ i u. shift u) (suc k) ws) (λ zs. Ok (z ∷ zs))))) (sym e)
+      ∙ none_more y (each_member (λ i u. shift u) (suc k) ws) i.1,
+)
 kept_more shift p h v k vs ws (Ok y) (Err d) e val i t =
     then_go (shift v) (λ z. then (each_member (λ i u. shift u) (suc k) ws) (λ zs. Ok (z ∷ zs))) y (sym e)
     ∙ then_stop (each_member (λ i u. shift u) (suc k) ws) (λ zs. Ok (y ∷ zs)) d i
@@ -78,14 +86,14 @@ one_more shift alpha step side p r q g h v k vs false true false ea eb ec w rest
   where
     passed : (shift : ℕ → Result Fraction Refused) (p : ℕ → Bool) (h : ℕ → Fraction) (v : ℕ) (vs ws : List ℕ) (k : ℕ) (o : Result (List Entry) Refused)
         → p v ≡ false → IsShifting shift p h vs ws k o → IsShifting shift p h (v ∷ vs) ws k o
-    passed shift p h v vs ws k (Ok es) e i = i ∙ sym (ap (λ b. cond b (record { place = v; value = h v } ∷ costs p h vs) (costs p h vs)) e)
+    passed shift p h v vs ws k (Ok es) e i = (i.0 ∙ sym (ap (λ b. cond b (record { place = v; value = h v } ∷ costs p h vs) (costs p h vs)) e), i.1)
     passed shift p h v vs ws k (Err d) e i = i
 one_more shift alpha step side p r q g h v k vs false false c ea eb ec w rest =
     passed shift p h v vs (filter q (filter r vs)) k (shift_by alpha step side (costs p g vs)) ea (rest k)
   where
     passed : (shift : ℕ → Result Fraction Refused) (p : ℕ → Bool) (h : ℕ → Fraction) (v : ℕ) (vs ws : List ℕ) (k : ℕ) (o : Result (List Entry) Refused)
         → p v ≡ false → IsShifting shift p h vs ws k o → IsShifting shift p h (v ∷ vs) ws k o
-    passed shift p h v vs ws k (Ok es) e i = i ∙ sym (ap (λ b. cond b (record { place = v; value = h v } ∷ costs p h vs) (costs p h vs)) e)
+    passed shift p h v vs ws k (Ok es) e i = (i.0 ∙ sym (ap (λ b. cond b (record { place = v; value = h v } ∷ costs p h vs) (costs p h vs)) e), i.1)
     passed shift p h v vs ws k (Err d) e i = i
 one_more shift alpha step side p r q g h v k vs true true false ea eb ec w rest =
     absurd (true≢false (sym ea ∙ w.test ∙ ap (λ z. cond z (q v) false) eb ∙ ec))
@@ -97,13 +105,13 @@ one_more shift alpha step side p r q g h v k vs false true true ea eb ec w rest 
 pub shifting : (shift : ℕ → Result Fraction Refused) (alpha : List Entry) (step : Step) (side : Side) (p r q : ℕ → Bool) (g h : ℕ → Fraction) (n v k : ℕ)
     → ((u : ℕ) → v ≤ u → u < v + n → IsShiftOf shift alpha step side p r q g h u)
     → IsShifting shift p h (range_with_len v n) (filter q (filter r (range_with_len v n))) k (shift_by alpha step side (costs p g (range_with_len v n)))
-shifting shift alpha step side p r q g h zero v k w = refl
+shifting shift alpha step side p r q g h zero v k w = (refl, refl)
 shifting shift alpha step side p r q g h (suc n) v k w =
     one_more shift alpha step side p r q g h v k (range_with_len (v + 1) n) (p v) (r v) (q v) refl refl refl (w v (omega arith) (omega arith))
     (λ j. shifting shift alpha step side p r q g h n (v + 1) j (λ u l m. w u (omega arith) (omega arith)))
 
 pub answered : (shift : ℕ → Result Fraction Refused) (p : ℕ → Bool) (h : ℕ → Fraction) (vs ws : List ℕ) (o : Result (List Entry) Refused) (es : List Entry)
-    → IsShifting shift p h vs ws 0 o → o ≡ Ok es → es ≡ costs p h vs
+    → IsShifting shift p h vs ws 0 o → o ≡ Ok es → (es ≡ costs p h vs) × (refusal (each_member (λ i u. shift u) 0 ws) ≡ None)
 answered shift p h vs ws o es i e = subst (IsShifting shift p h vs ws 0) e i
 
 pub refused : (shift : ℕ → Result Fraction Refused) (p : ℕ → Bool) (h : ℕ → Fraction) (vs ws : List ℕ) (o : Result (List Entry) Refused) (d : Refused)

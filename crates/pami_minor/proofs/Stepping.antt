@@ -185,6 +185,7 @@ stepped f limit m next n old new flips side step p h g v e es t =
       within = omega arith;
       reached_rows = tt;
       other_rows = subst (λ xs. AreFreshRows f r new.rows.items xs) rest (subst (λ ks. AreFreshRows f r ks (rest_of f r m.row)) (sym (ap (λ x. x.items) t.rows)) h.rows);
+      remaining = ap (λ x. x.items) t.remaining ∙ h.remaining ∙ ap batch.places rest;
       shifted = record {
         by_variable = ap (λ x. length x.items) t.reduced ∙ ap length h.reduced ∙ h.reached.fresh.reduced_by_variable;
         at = λ w l. ap (λ x. get x.items w) t.reduced ∙ ap (λ xs. get xs w) h.reduced

@@ -24,6 +24,7 @@ use Rattle.pami_theory.specs.Violation as outside
 use Rattle.pami_theory.specs.Ratio.{Leaving, Entering, row_entry, turned_entry, may_enter, ratio_walk}
 use Rattle.pami_theory.specs.Step as theory_step
 use Rattle.pami_theory.specs.Step.{step_at, step_by, leaving_at, flip_change, flips_change, change_by, is_among, theta}
+use Rattle.pami_method.specs.Task.{refusal}
 use Rattle.pami_method.specs.Scripts as method
 use Rattle.pami_method.specs.Scripts.{ratio_script, step_script, flips_script, ascending, zeros}
 use Rattle.pami_method.proofs.Flips.{step_value}
@@ -33,6 +34,7 @@ use Rattle.pami_state.proofs.Formed.{variables_are, coefficient_is}
 use Rattle.pami_price.specs.Agreement.{nonzero_entries, all_nonbasic}
 use Rattle.pami_price.proofs.Rows.{kept_rise, kept_value}
 use Rattle.pami_bfrt.specs.Agreement.{IsTable, AreRowEntries}
+use Rattle.pami_bfrt.specs.Walks.{walk_script, found_by}
 use Rattle.pami_bfrt.specs.declared.walk.Walk.{Walk}
 use Rattle.pami_bfrt.proofs.Ended.{walk_is}
 use Rattle.pami_vec.specs.declared.step.Step.{Step}
@@ -41,7 +43,8 @@ use Rattle.pami_theory.proofs.Candidates.{entered_by_walk}
 use Rattle.pami_theory.proofs.Places.{nonbasic_standing}
 use Rattle.pami_minor.specs.Flips.{flip_at, flips_by, ascending_to, length_by}
 use Rattle.pami_minor.specs.Walked.{Moved, Walked, table_of, bound_of, step_with, step_behind, walk_by, walked}
-use Rattle.pami_minor.specs.Steps.{form_of, IsStepOf, IsStepFor, AreWalked, FollowsWalk}
+use Rattle.pami_form.specs.FormOf.{form_of}
+use Rattle.pami_minor.specs.Steps.{IsStepOf, IsStepFor, StepFits, AreWalked, FollowsWalk, FollowsRatio}
 use Rattle.pami_minor.proofs.StepScripts.{flips_tied, rows_length, rows_value, step_is_length}
 
 -- ---- the lists of the walk
@@ -101,7 +104,9 @@ pivot_is f b l e h =
 
 -- ---- what the walk comes to
 abbrev IsOutcome : theory.Form → Basis → Fresh → ℕ → Violation → Result Walked Refused → Type 0
-IsOutcome f b s p v (Ok w) = (w.found ≡ ratio_walk f b (leaving_at s p v)) × IsStepFor f b s (step_at f b s p v) w.step
+IsOutcome f b s p v (Ok w) =
+    (w.found ≡ ratio_walk f b (leaving_at s p v)) × IsStepFor f b s (step_at f b s p v) w.step
+    × (refusal (ratio_script f b (leaving_at s p v)) ≡ None) × StepFits f b s (step_at f b s p v)
 IsOutcome f b s p v (Err refused) =
     (ratio_script f b (leaving_at s p v) ≡ Err refused)
     ⊎ ((slope : Fraction) × (t : theory_step.Step) × (ratio_script f b (leaving_at s p v) ≡ Ok slope) × (step_at f b s p v ≡ Some t)
@@ -154,8 +159,12 @@ outcome_length form b s row e slope changes (Ok theta) h r w c x =
       old_value = old;
       flips_by_row = rows_length f b (ascending f e.flips) changes c;
       flips = λ i m. rows_value f b s row.place row.violation t changes i taken c m;
-    } in
-    (sym w, subst (λ o. IsStepFor f b s o (Some (step_with form b.stands row e (record { theta = theta; flips = changes })))) (sym taken) step)
+    } in (
+      sym w,
+      subst (λ o. IsStepFor f b s o (Some (step_with form b.stands row e (record { theta = theta; flips = changes })))) (sym taken) step,
+      ap refusal r,
+      subst (StepFits f b s) (sym taken) (ap refusal x),
+    )
 
 outcome_flips : (form : Form) (b : Basis) (s : Fresh) (row : program.Leaving) (e : Entering) (slope : Fraction) (c : Result (List Fraction) Refused)
     → IsHere form b s row → ratio_script (form_of form) b (leaving_at s row.place row.violation) ≡ Ok slope
@@ -211,8 +220,12 @@ flips_are form b vs k is =
 outcome_found : (form : Form) (b : Basis) (s : Fresh) (row : program.Leaving) (slope : Fraction) (o : Option Entering) → IsHere form b s row
     → ratio_script (form_of form) b (leaving_at s row.place row.violation) ≡ Ok slope → ratio_walk (form_of form) b (leaving_at s row.place row.violation) ≡ o
     → IsOutcome (form_of form) b s row.place row.violation (step_behind form b.stands (entries_at form b s row) (row_at s row.place) row o)
-outcome_found form b s row slope None h r w =
-    (sym w, subst (λ z. IsStepFor (form_of form) b s (option_map (step_by b row.place row.violation.side) z) None) (sym w) refl)
+outcome_found form b s row slope None h r w = (
+  sym w,
+  subst (λ z. IsStepFor (form_of form) b s (option_map (step_by b row.place row.violation.side) z) None) (sym w) refl,
+  ap refusal r,
+  subst (λ z. StepFits (form_of form) b s (option_map (step_by b row.place row.violation.side) z)) (sym w) tt,
+)
 outcome_found form b s row slope (Some e) h r w =
     subst (λ c. IsOutcome (form_of form) b s row.place row.violation
     (then (then c (λ changes. then (length_by (row_at s row.place) changes row.value (bound_of form row) (at (entries_at form b s row) e.variable))
@@ -258,6 +271,33 @@ walk_follows form b s stands reduced alpha rho row result k h e =
     answered (form_of form) b s row.place row.violation (walk_by form stands reduced alpha rho row) result
     (subst (IsOutcome (form_of form) b s row.place row.violation) (sym same)
     (outcome form b s row (record { kept = k; basis = h.basis; fresh = h.fresh; place = h.place; variable = h.variable; value = h.value }))) e
+
+-- ---- the walk alone
+ratio_answered : (f : theory.Form) (b : Basis) (s : Fresh) (p : ℕ) (v : Violation) (o : Result Fraction Refused) (w : Option Entering)
+    (result : Result Walk (Fault Refused)) → o ≡ ratio_script f b (leaving_at s p v) → w ≡ ratio_walk f b (leaving_at s p v)
+    → FollowsBy found_by (then o (λ slope. Ok w)) result → FollowsRatio f b s p v result
+ratio_answered f b s p v (Ok slope) w (Ok walk) e h k = (let same : w ≡ found_by walk = cc in sym same ∙ h, ap refusal (sym e))
+ratio_answered f b s p v (Err d) w (Ok walk) e h k = absurd (cc)
+ratio_answered f b s p v (Ok slope) w (Err (faults.Named d)) e h k = absurd (cc)
+ratio_answered f b s p v (Err c) w (Err (faults.Named d)) e h k =
+    let same : ◌≡◌ {A = Result Fraction Refused} (Err c) (Err d) = (let e : c ≡ d = cc in ap Err e) in sym e ∙ same
+ratio_answered f b s p v o w (Err faults.OutOfMemory) e h k = tt
+
+pub ratio_follows : (form : Form) (b : Basis) (s : Fresh) (stands : List Stand) (reduced : List Fraction) (alpha : List Entry) (rho : List Fraction)
+    (row : program.Leaving) (result : Result Walk (Fault Refused)) → Kept form → AreWalked (form_of form) b s stands reduced alpha rho row
+    → FollowsBy found_by (walk_script (table_of form stands reduced) alpha row.violation) result
+    → FollowsRatio (form_of form) b s row.place row.violation result
+ratio_follows form b s stands reduced alpha rho row result k h e =
+    let f = form_of form in
+    let l = leaving_at s row.place row.violation in
+    let same : walk_script (table_of form stands reduced) alpha row.violation ≡ then (ratio_script f b l) (λ slope. Ok (ratio_walk f b l)) =
+    ap (λ z. walk_script (table_of form z reduced) alpha row.violation) h.stands_are
+    ∙ ap (λ z. walk_script (table_of form b.stands z) alpha row.violation) h.reduced_are
+    ∙ ap (λ z. walk_script (table_of form b.stands s.reduced) z row.violation) h.alpha_is
+    ∙ walk_is f b l (table_of form b.stands s.reduced) (entries_at form b s row) row.violation
+    (table_is form b s l k h.basis refl) (entries_are f b l) refl in
+    ratio_answered f b s row.place row.violation (ratio_script f b l) (ratio_walk f b l) result refl refl
+    (subst (λ (o : Result (Option Entering) Refused). FollowsBy found_by o result) same e)
 
 -- ---- what a walk asks of its lists
 pub walked_rises : (form : Form) (b : Basis) (s : Fresh) (stands : List Stand) (reduced : List Fraction) (alpha : List Entry) (rho : List Fraction)

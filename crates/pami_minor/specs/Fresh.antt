@@ -20,6 +20,8 @@ use Rattle.pami_deferral.specs.SolvedBatch.{IsSolvedPivot}
 use Rattle.pami_deferral.specs.Inside.{IsPlaced}
 use Rattle.pami_vec.specs.declared.step.Step.{Step}
 use Rattle.pami_minor.specs.Steps.{IsStepOf}
+use Rattle.pami_minor.specs.Picks.{remaining_of}
+use Rattle.pami_minor.specs.declared.row.Remaining.{Remaining}
 use Rattle.pami_minor.specs.declared.kept.Kept.{Kept}
 use Rattle.pami_minor.specs.declared.kept.Picked.{Picked}
 use Rattle.pami_minor.specs.declared.minor.Minor.{Minor}
@@ -39,13 +41,23 @@ pub record IsReached (f : Form) (r : Reached) : Type 0 where
   pub apart : AreApart r.rows
   pub range : AreWeights r.weights
 
--- a row that remains has what is solved at the basis that is reached
+-- what a pick reads of a row that remains is what is solved at the basis that is reached
+pub record IsKnownRow (f : Form) (r : Reached) (row : Remaining) (x : InfeasibleRow) : Type 0 where
+  pub place : row.place ≡ x.place
+  pub merit : row.merit ≡ x.merit
+  pub bounds : row.bounds ≡ limits f (head_at r.basis x.place)
+  pub value : row.value ≡ value_at_place r.basis r.fresh x.place
+  pub weight : row.weight ≡ weight_at r.weights x.place
+
+abbrev pub AreKnownRows : Form → Reached → List Remaining → List InfeasibleRow → Type 0
+AreKnownRows f r [] [] = Unit {0}
+AreKnownRows f r (row ∷ rows) (x ∷ xs) = IsKnownRow f r row x × AreKnownRows f r rows xs
+AreKnownRows f r [] (x ∷ xs) = ⊥
+AreKnownRows f r (row ∷ rows) [] = ⊥
+
+-- and so is its row of the inverse
 pub record IsFreshRow (f : Form) (r : Reached) (k : Kept) (x : InfeasibleRow) : Type 0 where
-  pub place : k.at.place ≡ x.place
-  pub merit : k.merit ≡ x.merit
-  pub bounds : k.bounds ≡ limits f (head_at r.basis x.place)
-  pub value : k.at.value ≡ value_at_place r.basis r.fresh x.place
-  pub weight : k.at.weight ≡ weight_at r.weights x.place
+  pub known : IsKnownRow f r (remaining_of k) x
   pub rho : k.at.rho ≡ row_at r.fresh x.place
 
 abbrev pub AreFreshRows : Form → Reached → List Kept → List InfeasibleRow → Type 0
@@ -79,6 +91,7 @@ pub record IsFreshMinor (f : Form) (limit : ℕ) (r : Reached) (minor : Minor) :
   pub reduced : minor.reduced.items ≡ r.fresh.reduced
   pub limited : IsLimited limit r.count minor
   pub rows : AreFreshRows f r minor.rows.items r.rows
+  pub remaining : minor.remaining.items ≡ places r.rows
   pub room : HasRoom (length r.rows) (length r.rows) minor
 
 -- ---- between a row and its step
@@ -115,9 +128,14 @@ pub record IsPricing (f : Form) (limit : ℕ) (r : Reached) (row : InfeasibleRow
   pub reduced : minor.reduced.items ≡ r.fresh.reduced
   pub limited : IsLimited limit r.count minor
   pub rows : AreFreshRows f r minor.rows.items (rest_of f r row)
+  pub remaining : minor.remaining.items ≡ places (rest_of f r row)
   pub picked : (k : Picked) × (minor.picked ≡ Some k) × IsPickedRow r row k
   pub priced : ArePriced f r row n minor
   pub room : HasRoom (length (rest_of f r row)) (suc (length (rest_of f r row))) minor
+
+-- and all of them are
+abbrev pub IsRowPriced : Form → ℕ → Reached → InfeasibleRow → Minor → Type 0
+IsRowPriced f limit r row minor = IsPricing f limit r row (slices (variables f)) minor
 
 -- ---- between a step and the next row
 
@@ -138,6 +156,7 @@ pub record IsStepping (f : Form) (limit : ℕ) (m : batch.Minor) (next : Reached
   pub within : i ≤ length next.rows
   pub reached_rows : AreFreshRows f next (take i minor.rows.items) (take i next.rows)
   pub other_rows : AreFreshRows f m.reached (drop i minor.rows.items) (drop i next.rows)
+  pub remaining : minor.remaining.items ≡ places next.rows
   pub shifted : AreShifted f m.reached next j minor
   pub picked : (k : Picked) × (minor.picked ≡ Some k) × IsPickedRow m.reached m.row k
   pub priced : ArePriced f m.reached m.row (slices (variables f)) minor

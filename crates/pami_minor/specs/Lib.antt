@@ -10,6 +10,7 @@ pub mod Steps
 pub mod Fresh
 pub mod Follow
 pub mod Behind
+pub mod Lent
 pub mod Costs
 pub mod Shifts
 pub mod Opening

@@ -1,13 +1,13 @@
 -- A Minor at the start of its batch.
-use Rattle.std.specs.Prelude.{◌≡◌, ℕ, ◌+◌, ◌<◌, ◌≤◌, ◌^◌, List, [], ◌∷◌, length, map, take, drop, None, slice_index_or}
+use Rattle.std.specs.Prelude.{◌≡◌, ℕ, ◌+◌, ◌<◌, ◌≤◌, ◌^◌, List, [], length, map, take, drop, None, slice_index_or}
 use Rattle.pami_linear.specs.Lists.{get}
 use Rattle.pami_script.specs.Dense.{dense}
-use Rattle.pami_theory.specs.Form.{Form, limits}
-use Rattle.pami_theory.specs.Basis.{IsBasis, head_at}
-use Rattle.pami_theory.specs.Fresh.{Fresh, value_at_place}
+use Rattle.pami_theory.specs.Form.{Form}
+use Rattle.pami_theory.specs.Basis.{IsBasis}
+use Rattle.pami_theory.specs.Fresh.{Fresh}
 use Rattle.pami_theory.specs.Weights.{weight_at}
-use Rattle.pami_theory.specs.Choice.{InfeasibleRow, chosen}
-use Rattle.pami_method.specs.Batch.{Reached}
+use Rattle.pami_theory.specs.Choice.{chosen}
+use Rattle.pami_method.specs.Batch.{Reached, places}
 use Rattle.pami_devex.specs.Weights.{AreWeights}
 use Rattle.pami_chuzr.specs.Choice.{chosen_row}
 use Rattle.pami_chuzr.specs.declared.row.ChosenRow.{ChosenRow}
@@ -16,8 +16,9 @@ use Rattle.pami_state.specs.State.{basis_of, IsSolvedAfresh}
 use Rattle.pami_state.specs.declared.state.State.{State}
 use Rattle.pami_minor.specs.declared.kept.Kept.{Kept}
 use Rattle.pami_minor.specs.declared.minor.Minor.{Minor}
-use Rattle.pami_minor.specs.Steps.{form_of}
-use Rattle.pami_minor.specs.Fresh.{IsReached, AreFreshRows, IsLimited, HasRoom}
+use Rattle.pami_form.specs.FormOf.{form_of}
+use Rattle.pami_minor.specs.Picks.{remaining_of}
+use Rattle.pami_minor.specs.Fresh.{IsReached, AreKnownRows, AreFreshRows, IsLimited, HasRoom}
 
 -- a chosen row as it is kept at the start: its row of the inverse isn't known yet
 abbrev pub open_by : ProgramForm → State → ChosenRow → Kept
@@ -47,20 +48,6 @@ first_reached form st s most = record {
   rows = chosen (form_of form) (basis_of st) s st.weights most;
 }
 
--- a row that remains has what is solved at the basis that is reached, but for its row of the inverse
-pub record IsKnownRow (f : Form) (r : Reached) (k : Kept) (x : InfeasibleRow) : Type 0 where
-  pub place : k.at.place ≡ x.place
-  pub merit : k.merit ≡ x.merit
-  pub bounds : k.bounds ≡ limits f (head_at r.basis x.place)
-  pub value : k.at.value ≡ value_at_place r.basis r.fresh x.place
-  pub weight : k.at.weight ≡ weight_at r.weights x.place
-
-abbrev pub AreKnownRows : Form → Reached → List Kept → List InfeasibleRow → Type 0
-AreKnownRows f r [] [] = Unit {0}
-AreKnownRows f r (k ∷ ks) (x ∷ xs) = IsKnownRow f r k x × AreKnownRows f r ks xs
-AreKnownRows f r [] (x ∷ xs) = ⊥
-AreKnownRows f r (k ∷ ks) [] = ⊥
-
 -- all is that of the basis at which the batch begins, with the rows of the inverse of the first n chosen places
 pub record IsOpening (f : Form) (limit : ℕ) (r : Reached) (n : ℕ) (minor : Minor) : Type 0 where
   pub reached : IsReached f r
@@ -70,5 +57,6 @@ pub record IsOpening (f : Form) (limit : ℕ) (r : Reached) (n : ℕ) (minor : M
   pub limited : IsLimited limit r.count minor
   pub within : n ≤ length r.rows
   pub fresh_rows : AreFreshRows f r (take n minor.rows.items) (take n r.rows)
-  pub known_rows : AreKnownRows f r (drop n minor.rows.items) (drop n r.rows)
+  pub known_rows : AreKnownRows f r (map remaining_of (drop n minor.rows.items)) (drop n r.rows)
+  pub remaining : minor.remaining.items ≡ places r.rows
   pub room : HasRoom (length r.rows) (length r.rows) minor

@@ -1,4 +1,4 @@
--- Which of the rows that remain stay, which are dropped, and which is picked: the rows beside how they are now.
+-- Which of the rows that are kept stay, beside how they are now, and which is taken out.
 use Rattle.std.specs.Prelude.{◌≡◌, ℕ, ◌+◌, ◌<◌, List, [], ◌∷◌, ◌++◌, length, take, drop, Option, None, Some, cond, slice_index_or}
 use Rattle.std.specs.Option.{option_map}
 use Rattle.pami_deferral.specs.Inside.{keeps}
@@ -6,8 +6,9 @@ use Rattle.pami_minor.specs.declared.row.Remaining.{Remaining}
 use Rattle.pami_minor.specs.declared.row.RowNow.{RowNow}
 use Rattle.pami_minor.specs.declared.kept.Kept.{Kept}
 use Rattle.pami_minor.specs.declared.kept.Picked.{Picked}
-use Rattle.pami_minor.specs.Rows.{row_seen, better_of}
+use Rattle.pami_minor.specs.Rows.{row_seen}
 
+-- what a pick reads of a row
 abbrev pub remaining_of : Kept → Remaining
 remaining_of k = record { place = k.at.place; merit = k.merit; bounds = k.bounds; value = k.at.value; weight = k.at.weight }
 
@@ -15,16 +16,6 @@ remaining_of k = record { place = k.at.place; merit = k.merit; bounds = k.bounds
 abbrev pub staying_by : List Kept → List (Option RowNow) → List Kept
 staying_by (k ∷ ks) (now ∷ nows) = cond (keeps k.merit (option_map row_seen now)) (k ∷ staying_by ks nows) (staying_by ks nows)
 staying_by _ _ = []
-
--- the places of those that are dropped
-abbrev pub dropped_by : List Kept → List (Option RowNow) → List ℕ
-dropped_by (k ∷ ks) (now ∷ nows) = cond (keeps k.merit (option_map row_seen now)) (dropped_by ks nows) (k.at.place ∷ dropped_by ks nows)
-dropped_by _ _ = []
-
--- the best of those that stay
-abbrev pub best_by : List Kept → List (Option RowNow) → Option RowNow
-best_by (k ∷ ks) (now ∷ nows) = better_of (cond (keeps k.merit (option_map row_seen now)) now None) (best_by ks nows)
-best_by _ _ = None
 
 -- ---- taking a row out
 

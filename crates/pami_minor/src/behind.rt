@@ -8,7 +8,7 @@ ghost use Rattle.pami_vec.specs.declared.step.Step.{Step as TheStep};
 ghost use Rattle.pami_minor.specs.declared.kept.Kept.{Kept as TheKept};
 ghost use Rattle.pami_minor.specs.declared.kept.Picked.{Picked as ThePicked};
 ghost use Rattle.pami_minor.specs.Picks.{HasRowAt};
-ghost use Rattle.pami_minor.specs.Steps.{form_of};
+ghost use Rattle.pami_form.specs.FormOf.{form_of};
 ghost use Rattle.pami_minor.specs.Fresh.{IsStepping};
 ghost use Rattle.pami_minor.specs.Behind.{IsRowOf, IsReachedRow, FollowsReach, IsFirstAt};
 
@@ -104,6 +104,8 @@ impl Minor {
             → IsStepping f limit m next i j self.old → IsRowOf next i reached.place
             → IsReachedRow next reached.place reached
             → IsStepping f limit m next (i + 1) j self.new }
+        ensures steps { self.new.steps ≡ self.old.steps }
+        ensures dropped { self.new.dropped ≡ self.old.dropped }
     {
         let i = index_of(self.rows.as_slice(), reached.place);
         self.rows[i].at = reached;

@@ -8,24 +8,24 @@ ghost use Rattle.pami_theory.specs.Form.{Form as TheForm, variables, zero_f};
 ghost use Rattle.pami_method.specs.Batch.{Minor as TheMinor, Reached as TheReached};
 ghost use Rattle.pami_method.specs.Scripts.{slice_variables};
 ghost use Rattle.pami_price.specs.Slices.{slices, slice_size as the_slice_size};
-ghost use Rattle.pami_minor.specs.Costs.{costs, has_cost as the_has_cost, put_all, cost_in};
+ghost use Rattle.pami_minor.specs.Costs.{costs, had_cost as the_had_cost, put_all, cost_in};
 ghost use Rattle.pami_minor.specs.Fresh.{IsStepping};
 ghost use Rattle.pami_minor.specs.Shifts.{AreCosts, FollowsShift};
 
 use crate::minor::Minor;
 use crate::shift::shift_at;
 use pami_frac::{Entry, Fault, Frac, OutOfMemory, Refused};
-use pami_vec::{Side, Stand};
+use pami_vec::{Side, Stand, Step};
 use std::alloc::Global;
 
-/// Does a variable that stands so keep a cost, if it isn't the one that left?
-fn has_cost(stands: &[Stand], leaving: u32, variable: usize) -> bool
+/// Was a variable nonbasic before a step, behind which the variables stand so?
+fn had_cost(stands: &[Stand], step: &Step, variable: usize) -> bool
     requires { variable < length stands.now }
-    ensures { result ≡ the_has_cost stands.now leaving variable }
+    ensures { result ≡ the_had_cost stands.now step.now variable }
 {
     match stands[variable] {
-        Stand::Basic => false,
-        _ => variable != leaving as usize,
+        Stand::Basic => variable == step.entering as usize,
+        _ => variable != step.leaving as usize,
     }
 }
 
@@ -40,7 +40,7 @@ fn slice_size(count: usize, slice: usize) -> usize
     if 64 < left { 64 } else { left }
 }
 
-/// The reduced costs of a slice of the variables that were nonbasic before the pivot, the entering one left out.
+/// The reduced costs of a slice of the variables that were nonbasic before a step, zeros among them, by the stands behind it.
 ///
 /// # Errors
 ///
@@ -49,20 +49,20 @@ fn slice_costs(
     alloc: Global,
     reduced: &[Frac],
     stands: &[Stand],
-    leaving: u32,
+    step: &Step,
     slice: usize,
 ) -> Result<Vec<Entry>, OutOfMemory>
     requires same { length stands.now ≡ length reduced.now }
     requires few { length reduced.now < 2 ^ 32 }
     requires exists { 64 * slice < length reduced.now }
     ensures { IfOk result (λ es. es.items
-        ≡ costs (the_has_cost stands.now leaving) (get reduced.now) (slice_variables (length reduced.now) slice)) }
+        ≡ costs (the_had_cost stands.now step.now) (get reduced.now) (slice_variables (length reduced.now) slice)) }
 {
     let first = 64 * slice;
     let last = first + slice_size(reduced.len(), slice);
     let mut kept = Vec::new(alloc);
     for v in first..last {
-        if has_cost(stands, leaving, v) {
+        if had_cost(stands, step, v) {
             kept.push(Entry {
                 place: v as u32,
                 value: reduced[v],
@@ -73,7 +73,7 @@ fn slice_costs(
 }
 
 /// Puts costs in at their places; both go by variable.
-pub fn put_costs(reduced: &mut [Frac], costs: &[Entry])
+pub(crate) fn put_costs(reduced: &mut [Frac], costs: &[Entry])
     requires { All (λ (e : TheEntry). e.place < length reduced.old) costs.now }
     ensures { reduced.new ≡ put_all costs.now reduced.old }
 {
@@ -113,13 +113,7 @@ impl Minor {
         let step = self.last_step();
         let side = self.picked_side();
         let reduced = self.reduced.as_slice();
-        let costs = slice_costs(
-            alloc,
-            reduced,
-            self.stands.as_slice(),
-            step.leaving,
-            slice as usize,
-        )?;
+        let costs = slice_costs(alloc, reduced, self.stands.as_slice(), step, slice as usize)?;
         let alpha = &self.alpha[slice as usize];
         shift_at(alloc, costs.as_slice(), alpha.as_slice(), step, side)
     }
@@ -134,6 +128,8 @@ impl Minor {
         ensures shifted { (f : TheForm) (limit : ℕ) (m : TheMinor) (next : TheReached) (i : ℕ)
             → IsStepping f limit m next i slice self.old → AreCosts f m next slice reduced.items
             → IsStepping f limit m next i (slice + 1) self.new }
+        ensures steps { self.new.steps ≡ self.old.steps }
+        ensures dropped { self.new.dropped ≡ self.old.dropped }
     {
         let side = self.picked_side();
         let step = self.last_step();

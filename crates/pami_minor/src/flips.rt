@@ -110,7 +110,7 @@ fn flip_changes(
 ///
 /// `Named` exactly where an operation doesn't fit: the first such, the rows of each column ascending. `OutOfMemory` where
 /// memory runs out.
-pub fn flip_column(
+pub(crate) fn flip_column(
     alloc: Global,
     form: &Form,
     stands: &[Stand],
@@ -134,7 +134,7 @@ pub fn flip_column(
 /// # Errors
 ///
 /// `Refused` exactly where an operation doesn't fit: the first such.
-pub fn step_length(
+pub(crate) fn step_length(
     rho: &SpVec,
     flips: &SpVec,
     value: Frac,

@@ -1,6 +1,6 @@
 //! The inside of one batch.
 
-ghost use Rattle.std.specs.Prelude.{◌≡◌, ◌<◌, ◌+◌, ℕ, List, Some, length, slice_index_or};
+ghost use Rattle.std.specs.Prelude.{◌≡◌, ◌<◌, ◌+◌, ℕ, List, Some, length, slice_index_or, IsErr};
 ghost use Rattle.pami_theory.specs.Form.{Form as TheForm, variables};
 ghost use Rattle.pami_theory.specs.Choice.{InfeasibleRow};
 ghost use Rattle.pami_method.specs.Batch.{Reached as TheReached};
@@ -40,15 +40,22 @@ impl Minor {
     ///
     /// # Errors
     ///
-    /// `Refused` exactly where an infeasibility of a row that remains doesn't fit: the first such in order of choice.
+    /// `Refused` exactly where an infeasibility of a row that remains doesn't fit: the first such in order of choice. The
+    /// Minor is as before then.
     pub fn next_row(&mut self) -> Result<RowPick, Refused>
         requires turn { (f : TheForm) × (limit : ℕ) × (r : TheReached) × IsFreshMinor f limit r self.old }
         // At what the batch has reached, it is the definition's row and its drops, or its stop.
         ensures pick { (f : TheForm) (limit : ℕ) (r : TheReached) → IsFreshMinor f limit r self.old
             → FollowsPick f limit r self.new result }
+        // At a refusal nothing is taken: all is that of the same basis, and what is lent is as before.
+        ensures refused { (f : TheForm) (limit : ℕ) (r : TheReached) → IsFreshMinor f limit r self.old
+            → IsErr result → IsFreshMinor f limit r self.new }
+        ensures lent { IsErr result
+            → (self.new.remaining ≡ self.old.remaining) × (self.new.dropped ≡ self.old.dropped) }
+        ensures steps { self.new.steps ≡ self.old.steps }
     {
-        self.dropped.clear();
         if self.count == self.limit {
+            self.dropped.clear();
             return Ok(RowPick::Stop);
         }
         match pick_among(&mut self.rows, &mut self.nows, &mut self.dropped)? {

@@ -1,6 +1,6 @@
 //! A Minor at the start of its batch.
 
-ghost use Rattle.std.specs.Prelude.{◌≡◌, ◌<◌, ◌≤◌, ◌+◌, ◌^◌, ℕ, List, length, map, All, IfOk, vec_capacity};
+ghost use Rattle.std.specs.Prelude.{◌≡◌, ◌<◌, ◌≤◌, ◌+◌, ◌^◌, ℕ, List, [], length, map, All, IfOk, vec_capacity};
 ghost use Rattle.pami_theory.specs.Form.{Form as TheForm};
 ghost use Rattle.pami_theory.specs.Fresh.{Fresh, IsFresh, row_at};
 ghost use Rattle.pami_theory.specs.Choice.{chosen as the_chosen};
@@ -9,13 +9,14 @@ ghost use Rattle.pami_chuzr.specs.Choice.{chosen_row};
 ghost use Rattle.pami_chuzr.specs.declared.row.ChosenRow.{ChosenRow as TheChosenRow};
 ghost use Rattle.pami_state.specs.State.{basis_of};
 ghost use Rattle.pami_price.specs.Slices.{slices as the_slices};
-ghost use Rattle.pami_minor.specs.Steps.{form_of};
+ghost use Rattle.pami_form.specs.FormOf.{form_of};
 ghost use Rattle.pami_minor.specs.Opening.{open_by, IsOpenable, first_reached, IsOpening};
 ghost use Rattle.pami_minor.specs.Behind.{IsRowOf};
 
 use crate::behind::index_of;
 use crate::kept::Kept;
 use crate::minor::Minor;
+use crate::pick::note_places;
 use crate::row::Reached;
 use pami_chuzr::ChosenRow;
 use pami_form::Form;
@@ -111,10 +112,12 @@ impl Minor {
             → chosen.now ≡ map chosen_row (the_chosen (form_of form.now) (basis_of state.now) s state.now.weights most)
             → IsOpening (form_of form.now) (state.now.pivots + steps_left)
             (first_reached form.now state.now s most) 0 minor) }
+        ensures steps { IfOk result (λ minor. minor.steps.items ≡ []) }
     {
         let many = chosen.len();
         let rows = open_rows(alloc, form, state, chosen)?;
-        let remaining = Vec::with_capacity(alloc, many)?;
+        let mut remaining = Vec::with_capacity(alloc, many)?;
+        note_places(rows.as_slice(), &mut remaining);
         let dropped = Vec::with_capacity(alloc, many)?;
         let nows = Vec::with_capacity(alloc, many)?;
         let steps = Vec::with_capacity(alloc, many)?;
@@ -146,6 +149,7 @@ impl Minor {
         ensures opening { (f : TheForm) (limit : ℕ) (r : TheReached) (n : ℕ)
             → IsOpening f limit r n self.old → IsRowOf r n place
             → rho ≡ row_at r.fresh place → IsOpening f limit r (n + 1) self.new }
+        ensures steps { self.new.steps ≡ self.old.steps }
     {
         let i = index_of(self.rows.as_slice(), place);
         self.rows[i].at.rho = rho;

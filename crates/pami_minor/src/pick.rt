@@ -1,11 +1,11 @@
 //! Picking the row that leaves next, among the rows that remain.
 
-ghost use Rattle.std.specs.Prelude.{◌≡◌, ◌<◌, ◌≤◌, ℕ, List, Some, length, map, All, vec_len, vec_capacity};
+ghost use Rattle.std.specs.Prelude.{◌≡◌, ◌<◌, ◌≤◌, ℕ, List, Some, length, map, All, vec_len, vec_capacity, IsErr};
 ghost use Rattle.pami_frac.specs.Answers.{BecomesBy};
 ghost use Rattle.pami_minor.specs.declared.kept.Kept.{Kept as TheKept};
-ghost use Rattle.pami_minor.specs.Rows.{looks_by};
+ghost use Rattle.pami_minor.specs.Rows.{looks_by, dropped_by, best_by};
 ghost use Rattle.pami_minor.specs.declared.row.RowNow.{RowNow as TheRowNow};
-ghost use Rattle.pami_minor.specs.Picks.{remaining_of, staying_by, dropped_by, best_by, HasRowAt, TakesRow, TakesBest};
+ghost use Rattle.pami_minor.specs.Picks.{remaining_of, staying_by, HasRowAt, TakesRow, TakesBest};
 ghost use Rattle.pami_minor.specs.Fresh.{AreFreshRows, AreApart};
 ghost use Rattle.pami_minor.specs.Follow.{FollowsAmong};
 ghost use Rattle.pami_theory.specs.Form.{Form};
@@ -34,11 +34,11 @@ pub(crate) fn look_at(rows: &[Kept], nows: &mut Vec<Option<RowNow>>) -> Result<(
     Ok(())
 }
 
-/// Notes the places of the rows that don't stay, in order, in an empty list that has the room.
+/// Notes the places of the rows that don't stay, in order, in a list that has the room.
 pub(crate) fn note_dropped(rows: &[Kept], nows: &[Option<RowNow>], dropped: &mut Vec<u32>)
     requires room { length rows.now ≤ vec_capacity dropped.old }
     requires same { length nows.now ≡ length rows.now }
-    ensures places { dropped.new.items ≡ dropped_by rows.now nows.now }
+    ensures places { dropped.new.items ≡ dropped_by (map remaining_of rows.now) nows.now }
     ensures room { vec_capacity dropped.new ≡ vec_capacity dropped.old }
 {
     dropped.clear();
@@ -52,7 +52,7 @@ pub(crate) fn note_dropped(rows: &[Kept], nows: &[Option<RowNow>], dropped: &mut
 /// The first of the rows that stay, in the order of choice as they are now.
 pub(crate) fn best_row(rows: &[Kept], nows: &[Option<RowNow>]) -> Option<RowNow>
     requires same { length nows.now ≡ length rows.now }
-    ensures { result ≡ best_by rows.now nows.now }
+    ensures { result ≡ best_by (map remaining_of rows.now) nows.now }
 {
     let mut best = None;
     let mut i = rows.len();
@@ -112,7 +112,7 @@ fn take_best(rows: &mut Vec<Kept>, best: Option<RowNow>) -> Option<Picked>
 ///
 /// # Errors
 ///
-/// `Refused` exactly where an infeasibility doesn't fit: the first such in order. The rows are as before then.
+/// `Refused` exactly where an infeasibility doesn't fit: the first such in order. The rows and the noted places are as before then.
 pub(crate) fn pick_among(
     rows: &mut Vec<Kept>,
     nows: &mut Vec<Option<RowNow>>,
@@ -124,6 +124,7 @@ pub(crate) fn pick_among(
     requires dropped_room { vec_len rows.old ≤ vec_capacity dropped.old }
     ensures pick { (f : Form) (r : Reached) (xs : List InfeasibleRow) → AreFreshRows f r rows.old.items xs → AreApart xs
         → FollowsAmong f r xs rows.new.items dropped.new.items result }
+    ensures kept { IsErr result → (rows.new ≡ rows.old) × (dropped.new ≡ dropped.old) }
     ensures nows_room { vec_capacity nows.new ≡ vec_capacity nows.old }
     ensures dropped_room { vec_capacity dropped.new ≡ vec_capacity dropped.old }
 {

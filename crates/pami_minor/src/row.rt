@@ -24,6 +24,15 @@ pub struct Remaining {
     pub weight: u64,
 }
 
+impl Remaining {
+    /// Does it stay, being so now?
+    pub(crate) fn stays(&self, now: &Option<RowNow>) -> bool
+        ensures { result ≡ keeps self.now.merit (option_map row_seen now.now) }
+    {
+        stays(self.merit, now)
+    }
+}
+
 /// A row behind the pivots so far: its place, value and weight, and its row of the inverse, which goes by row.
 #[derive(Debug, Drop)]
 pub struct Reached {

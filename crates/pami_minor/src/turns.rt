@@ -7,8 +7,9 @@ ghost use Rattle.pami_method.specs.Batch.{Minor as TheMinor, Reached as TheReach
 ghost use Rattle.pami_deferral.specs.SolvedBatch.{IsSolvedPivot};
 ghost use Rattle.pami_price.specs.Slices.{slices};
 ghost use Rattle.pami_minor.specs.Joined.{joined};
-ghost use Rattle.pami_minor.specs.Steps.{form_of, FollowsWalk};
-ghost use Rattle.pami_minor.specs.Fresh.{IsPricing, IsStepping};
+ghost use Rattle.pami_form.specs.FormOf.{form_of};
+ghost use Rattle.pami_minor.specs.Steps.{FollowsWalk, FollowsRatio, noted};
+ghost use Rattle.pami_minor.specs.Fresh.{IsPricing, IsRowPriced, IsStepping};
 ghost use Rattle.pami_bfrt.specs.Walks.{found_by};
 ghost use Rattle.pami_minor.specs.declared.kept.Picked.{Picked as ThePicked};
 ghost use Rattle.pami_minor.specs.Turned.{all_turned, flips_found, IsTaken};
@@ -16,7 +17,7 @@ ghost use Rattle.pami_minor.specs.Follow.{IsPriceOf};
 
 use crate::minor::Minor;
 use crate::walk::{Leaving, walk_at};
-use pami_bfrt::Walk;
+use pami_bfrt::{Walk, ratio_walk};
 use pami_form::Form;
 use pami_frac::{Entry, Fault, ListOf, OutOfMemory, Refused};
 use pami_vec::{Side, Stand, Step};
@@ -48,8 +49,8 @@ fn turn_stands(stands: &mut [Stand], flips: &[u32])
     }
 }
 
-/// The variables that a walk flips.
-fn flips_of(walk: &Walk) -> &[u32]
+/// The variables that a walk flips, in its order.
+pub fn flips_of(walk: &Walk) -> &[u32]
     ensures { result.now ≡ flips_found (found_by walk.now) }
 {
     match walk {
@@ -82,10 +83,7 @@ impl Minor {
         requires { (k : ThePicked) × (self.now.picked ≡ Some k) }
         ensures { (k : ThePicked) → self.now.picked ≡ Some k → result ≡ k.violation.side }
     {
-        match &self.picked {
-            None => unreachable!(),
-            Some(picked) => picked.violation.side,
-        }
+        self.picked_row().violation.side
     }
 
     /// Takes in the entries of the picked row in the next slice, by rising variable; zeros are left out. It takes no memory.
@@ -95,6 +93,8 @@ impl Minor {
         // One slice more is priced, where these are its entries.
         ensures priced { (f : TheForm) (limit : ℕ) (r : TheReached) (row : InfeasibleRow)
             → IsPricing f limit r row slice self.old → IsPriceOf f r row slice alpha.items → IsPricing f limit r row (slice + 1) self.new }
+        ensures steps { self.new.steps ≡ self.old.steps }
+        ensures dropped { self.new.dropped ≡ self.old.dropped }
     {
         self.alpha[slice as usize] = ListOf::from_vec(alpha);
     }
@@ -108,48 +108,76 @@ impl Minor {
     /// `OutOfMemory` where memory runs out.
     pub fn walk(&self, alloc: Global, form: &Form) -> Result<(Walk, Option<Step>), Fault<Refused>>
         requires turn { (limit : ℕ) × (r : TheReached) × (row : InfeasibleRow)
-            × IsPricing (form_of form.now) limit r row (slices (variables (form_of form.now))) self.now }
+            × IsRowPriced (form_of form.now) limit r row self.now }
         // It is the walk of the batch's row at what it has reached, and its step.
         ensures walk { (limit : ℕ) (r : TheReached) (row : InfeasibleRow)
-            → IsPricing (form_of form.now) limit r row (slices (variables (form_of form.now))) self.now
+            → IsRowPriced (form_of form.now) limit r row self.now
             → FollowsWalk (form_of form.now) r.basis r.fresh row.place row.violation result }
     {
         let alpha = join(alloc, self.alpha.as_slice())?;
-        match &self.picked {
-            None => unreachable!(),
-            Some(picked) => {
-                let row = Leaving {
-                    place: picked.at.place,
-                    variable: self.head[picked.at.place as usize],
-                    value: picked.at.value,
-                    violation: picked.violation,
-                };
-                let stands = self.stands.as_slice();
-                let reduced = self.reduced.as_slice();
-                walk_at(
-                    alloc,
-                    form,
-                    stands,
-                    reduced,
-                    alpha.as_slice(),
-                    &picked.at.rho,
-                    &row,
-                )
-            }
-        }
+        let picked = self.picked_row();
+        let row = Leaving {
+            place: picked.at.place,
+            variable: self.head[picked.at.place as usize],
+            value: picked.at.value,
+            violation: picked.violation,
+        };
+        let stands = self.stands.as_slice();
+        let reduced = self.reduced.as_slice();
+        walk_at(
+            alloc,
+            form,
+            stands,
+            reduced,
+            alpha.as_slice(),
+            &picked.at.rho,
+            &row,
+        )
+    }
+
+    /// The ratio walk of the picked row alone: it tells whether an operation that `walk` refuses is one of the walk, or of the
+    /// step behind it.
+    ///
+    /// # Errors
+    ///
+    /// `Named` exactly where an operation of the walk doesn't fit: the first such. `OutOfMemory` where memory runs out.
+    pub fn ratio(&self, alloc: Global, form: &Form) -> Result<Walk, Fault<Refused>>
+        requires turn { (limit : ℕ) × (r : TheReached) × (row : InfeasibleRow)
+            × IsRowPriced (form_of form.now) limit r row self.now }
+        // It is the walk of the batch's row at what it has reached.
+        ensures ratio { (limit : ℕ) (r : TheReached) (row : InfeasibleRow)
+            → IsRowPriced (form_of form.now) limit r row self.now
+            → FollowsRatio (form_of form.now) r.basis r.fresh row.place row.violation result }
+    {
+        let alpha = join(alloc, self.alpha.as_slice())?;
+        let picked = self.picked_row();
+        ratio_walk(
+            alloc,
+            self.stands.as_slice(),
+            form.bounds.as_slice(),
+            form.widths.as_slice(),
+            self.reduced.as_slice(),
+            alpha.as_slice(),
+            &picked.violation,
+        )
     }
 
     /// Takes in the walk of the picked row, and its step where a variable enters: the flipped variables go to their other
     /// bounds, the leaving one to the bound that it has passed, and the entering one into the basis. It takes no memory.
     pub fn commit_walk(&mut self, walk: Walk, step: Option<Step>)
         requires turn { (f : TheForm) × (limit : ℕ) × (r : TheReached) × (row : InfeasibleRow)
-            × IsPricing f limit r row (slices (variables f)) self.old
+            × IsRowPriced f limit r row self.old
             × FollowsWalk f r.basis r.fresh row.place row.violation (Ok (walk, step)) }
         // Behind the step all rows that remain and all slices are still those of the basis before.
         ensures stepping { (f : TheForm) (limit : ℕ) (m : TheMinor) (next : TheReached)
-            → IsPricing f limit m.reached m.row (slices (variables f)) self.old
+            → IsRowPriced f limit m.reached m.row self.old
             → FollowsWalk f m.reached.basis m.reached.fresh m.row.place m.row.violation (Ok (walk, step))
             → IsSolvedPivot f limit m next → IsStepping f limit m next 0 0 self.new }
+        // A step stands behind the earlier ones.
+        ensures steps { self.new.steps.items ≡ noted step self.old.steps.items }
+        ensures dropped { self.new.dropped ≡ self.old.dropped }
+        // Where no variable enters, all is as before.
+        ensures idle { step ≡ None → self.new ≡ self.old }
     {
         match step {
             None => {}

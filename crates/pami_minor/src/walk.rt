@@ -8,7 +8,8 @@ ghost use Rattle.pami_theory.specs.Fresh.{standing_value as the_standing_value};
 ghost use Rattle.pami_theory.specs.declared.words.Stand.TheVariants.{Basic};
 ghost use Rattle.pami_theory.specs.Basis.{Basis};
 ghost use Rattle.pami_theory.specs.Fresh.{Fresh};
-ghost use Rattle.pami_minor.specs.Steps.{form_of, AreWalked, FollowsWalk};
+ghost use Rattle.pami_form.specs.FormOf.{form_of};
+ghost use Rattle.pami_minor.specs.Steps.{AreWalked, FollowsWalk};
 ghost use Rattle.pami_minor.specs.Walked.{bounds_at, bound_of as the_bound_of, move_by, walk_by, walked};
 
 use crate::flips::{flip_column, step_length};

@@ -27,5 +27,6 @@ returns c = record {
         dropped = refl;
         remaining = refl;
       })
-      refl;
+      refl refl;
+  steps = refl;
 }

@@ -16,6 +16,7 @@ returns c = record {
         reduced = h.reduced;
         limited = record { count_is = h.limited.count_is; limit_is = h.limited.limit_is; most = h.limited.most; few = h.limited.few };
         rows = h.rows;
+        remaining = h.remaining;
         picked = h.picked;
         priced = priced_more f r row c.args.slice c.args.self.now _ c.from_vec.result h.priced (c.from_vec.ensures ∙ e) l refl;
         room = record {
@@ -26,4 +27,6 @@ returns c = record {
           slices = length-set _ c.args.slice _ ∙ h.room.slices;
         };
       };
+  steps = refl;
+  dropped = refl;
 }

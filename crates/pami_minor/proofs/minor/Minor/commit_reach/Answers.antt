@@ -28,5 +28,7 @@ returns c = record {
         dropped = refl;
         remaining = refl;
       })
-      refl refl;
+      refl refl refl;
+  steps = refl;
+  dropped = refl;
 }

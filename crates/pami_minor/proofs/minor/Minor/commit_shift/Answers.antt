@@ -1,4 +1,4 @@
-use Rattle.std.proofs.Common.{◌≡◌, ◌<◌, ◌++◌, List, length, take, drop, sym, ap, ◌∙◌, subst, arith}
+use Rattle.std.proofs.Common.{◌≡◌, ◌<◌, ◌++◌, List, length, take, drop, refl, sym, ap, ◌∙◌, subst, arith}
 use Rattle.std.specs.List.{All}
 use Rattle.pami_algebra.specs.Operations.{neg_f}
 use Rattle.pami_frac.specs.declared.list.Entry.{Entry}
@@ -71,6 +71,7 @@ returns c = record {
         within = h.within;
         reached_rows = h.reached_rows;
         other_rows = h.other_rows;
+        remaining = h.remaining;
         shifted = shifted_more f limit m next i slice c.args.self.now _ c.args.reduced.items c.negate.result h e cost
             (outer ∙ b ∙ ap (λ q. cost_in slice q c.negate.result (cost_in slice last.entering zero_f (put_all c.args.reduced.items old.items))) st.leaving
             ∙ ap (λ q. cost_in slice m.step.leaving c.negate.result (cost_in slice q zero_f (put_all c.args.reduced.items old.items))) st.entering);
@@ -79,4 +80,6 @@ returns c = record {
         step = h.step;
         room = record { nows = h.room.nows; dropped = h.room.dropped; remaining = h.room.remaining; steps = h.room.steps; slices = h.room.slices };
       };
+  steps = refl;
+  dropped = refl;
 }

@@ -1,4 +1,5 @@
-use Rattle.std.proofs.Common.{length, Option, Ok, refl, ap, ◌∙◌, subst, arith}
+use Rattle.std.proofs.Common.{map, length, Option, Ok, refl, sym, ap, ◌∙◌, subst, arith, true≢false}
+use Rattle.pami_minor.specs.declared.kept.Kept.{Kept}
 use Rattle.pami_minor.specs.declared.kept.Picked.{Picked}
 use Rattle.pami_minor.specs.Follow.{FollowsAmong}
 use Rattle.pami_minor.proofs.Among.{fresh_length}
@@ -23,8 +24,7 @@ pick_among-requires-clause-dropped_room c =
     let n = fresh_length _ _ _ _ h.rows in
     let k = c.args.self.now.rows.ok.0 in
     let room = h.room.dropped in
-    let clear = c.clear.ensures.capacity in
-    omega (arith, n, k, room, clear)
+    omega (arith, n, k, room)
 
 pub note_places-requires : goal.note_places-requires
 note_places-requires c =
@@ -48,10 +48,14 @@ returns-in-Some c = record {
         alpha = refl;
         steps = refl;
         nows = c.in_ok-pick_among.ensures.nows_room;
-        dropped = c.in_ok-pick_among.ensures.dropped_room ∙ c.clear.ensures.capacity;
+        dropped = c.in_ok-pick_among.ensures.dropped_room;
         remaining = c.note_places.ensures.room;
       })
       c.if-self.false refl
+      (c.note_places.ensures.places ∙ ap (map (λ (k : Kept). k.at.place)) c.as_slice.ensures.value)
       (subst (λ (o : Option Picked). FollowsAmong f r r.rows c.pick_among.new.rows.items c.pick_among.new.dropped.items (Ok o)) c.in-Some.is
       (c.in_ok-pick_among.ensures.pick f r r.rows h.rows h.reached.apart));
+  refused = λ f limit r h e. absurd (true≢false (sym e));
+  lent = λ e. absurd (true≢false (sym e));
+  steps = refl;
 }

@@ -1,19 +1,16 @@
 use Rattle.std.proofs.Common.{List, length, sym, ap, ◌∙◌, subst, arith}
 use Rattle.pami_frac.specs.Signs.{is_zero}
 use Rattle.pami_frac.proofs.Outcomes.{not_zero_by_test}
-use Rattle.pami_state.specs.Columns.{column_of}
-use Rattle.pami_state.proofs.Formed.{variables_are, coefficient_is}
-use Rattle.pami_theory.specs.Form.{coefficient}
+use Rattle.pami_state.proofs.Formed.{variables_are}
 use Rattle.pami_theory.proofs.Members.{has_from}
-use Rattle.pami_deferral.proofs.Chains.{pivot_links}
 use Rattle.pami_minor.specs.declared.kept.Kept.{Kept}
 use Rattle.pami_minor.specs.declared.kept.Picked.{Picked}
 use Rattle.pami_minor.specs.Fresh.{IsPickedRow}
 use Rattle.pami_minor.specs.Picks.{HasRowAt}
-use Rattle.pami_minor.specs.Steps.{form_of}
+use Rattle.pami_minor.specs.Behind.{FollowsReach}
+use Rattle.pami_form.specs.FormOf.{form_of}
 use Rattle.pami_minor.proofs.Nth.{nth_row, has_nth, kept_at, row_low, pivot_low}
-use Rattle.pami_minor.proofs.ReachReady.{step_here, entering_low, slice_low, pivot_here, pivot_nonzero}
-use Rattle.pami_minor.proofs.Reaching.{reach_follows}
+use Rattle.pami_minor.proofs.ReachReady.{step_here, entering_low, slice_low, pivot_here, pivot_nonzero, before_reach}
 use Rattle.pami_minor.proofs.minor.Minor.reach_row.Goals as goal
 
 pub entry_of-pivot-requires : goal.entry_of-pivot-requires
@@ -79,18 +76,10 @@ returns c = record {
       let st = step_here f limit m next i j c.args.self.now c.last_step-step.result.now h (c.last_step-step.ensures h.step.0 h.step.1 h.step.2) in
       let row = kept_at f limit m next i j c.args.place c.args.self.now c.as_slice.result.now c.index_of.result c.index-row.result.now h o
       c.as_slice.ensures.value c.index_of.ensures c.index-row.ensures in
-      let links = pivot_links f limit m next h.pivot in
-      let k = c.args.form.now.kept in
-      let n = variables_are c.args.form.now.columns c.args.form.now.bounds c.args.form.now.costs k.form in
-      let low = entering_low f limit m next c.last_step-step.result.now h.pivot st in
-      reach_follows f limit m next o.0 c.args.place (column_of c.args.form.now.columns c.last_step-step.result.now.entering) c.last_step-step.result.now
-      c.entry_of-pivot.result c.picked_row-picked.result.now c.index-row.result.now c.reach_at.result links h.reached.placed
-      (has_from next.rows o.0 (i, o.1, o.2)) o.3
-      (λ q l. sym (coefficient_is c.args.form.now.columns c.args.form.now.bounds c.args.form.now.costs c.last_step-step.result.now.entering q k.form
-      (omega (arith, low, n)) l)
-      ∙ ap (λ v. coefficient f v q) st.entering)
-      st
-      (c.entry_of-pivot.ensures ∙ pivot_here f limit m next i j c.args.self.now c.last_step-step.result.now h st)
+      subst (λ p. FollowsReach f m next p c.reach_at.result) (row.known.place ∙ o.3)
+      (c.reach_at.ensures.fresh limit m next
+      (before_reach f limit m next i j c.args.self.now c.last_step-step.result.now c.entry_of-pivot.result c.picked_row-picked.result.now c.index-row.result.now o.0
+      h st (c.entry_of-pivot.ensures ∙ pivot_here f limit m next i j c.args.self.now c.last_step-step.result.now h st)
       (subst (IsPickedRow m.reached m.row) (sym (c.picked_row-picked.ensures h.picked.0 h.picked.1)) h.picked.2)
-      row c.reach_at.ensures.script;
+      (has_from next.rows o.0 (i, o.1, o.2)) row));
 }
