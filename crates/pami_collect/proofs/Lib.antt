@@ -1,0 +1,4 @@
+pub mod Totals
+pub mod Exchanges
+pub mod Movements
+pub mod Weights
