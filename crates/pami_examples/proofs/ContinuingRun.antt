@@ -27,9 +27,24 @@ use Rattle.std.specs.Fmt.{digits}
 use Rattle.pami_frac.specs.Printed.{printed}
 use Rattle.pami_lines.specs.Line.{text}
 use Rattle.pami_text.specs.Record.{run_lines}
+use Rattle.pami_frac.specs.BoundText.{bound_outcome}
+use Rattle.pami_frac.specs.Decimal.{digits_within, zeros_within, decimal_outcome}
+use Rattle.pami_script.specs.Dense.{dense}
+use Rattle.pami_mps.specs.Mps.{Mps}
+use Rattle.pami_model_form.specs.ModelForm.{model_form}
+use Rattle.pami_examples.proofs.FileTests.{read_by_tests}
 use Rattle.pami_examples.proofs.Facts.{not_below}
 use Rattle.pami_examples.specs.Words.{usual, behind}
-use Rattle.pami_examples.specs.Continuing.{continuing, continuing_own_fresh, continuing_first_fresh, continuing_first, continuing_minor_1, continuing_second_basis, continuing_second_fresh, continuing_second, continuing_major_1, continuing_third_fresh, continuing_state, continuing_third, continuing_minor_2, continuing_fourth_basis, continuing_fourth_fresh, continuing_fourth, continuing_major_2, continuing_record, continuing_end, continuing_answer, continuing_named, continuing_text}
+use Rattle.pami_examples.specs.Continuing.{continuing_file, continuing_contents, continuing, continuing_own_fresh, continuing_first_fresh, continuing_first, continuing_minor_1, continuing_second_basis, continuing_second_fresh, continuing_second, continuing_major_1, continuing_third_fresh, continuing_state, continuing_third, continuing_minor_2, continuing_fourth_basis, continuing_fourth_fresh, continuing_fourth, continuing_major_2, continuing_record, continuing_end, continuing_answer, continuing_named, continuing_text}
+
+-- ---- the file
+pub continuing_read : Mps continuing_file continuing_contents
+unfolding digits_within zeros_within decimal_outcome bound_outcome of_int neg_f gcd
+continuing_read = read_by_tests _ _ refl refl refl refl
+
+pub continuing_formed : model_form continuing_contents ≡ continuing
+unfolding dense of_int neg_f gcd
+continuing_formed = refl
 
 -- ---- the run
 

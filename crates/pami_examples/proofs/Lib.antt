@@ -12,3 +12,4 @@ pub mod OverflowingRun
 pub mod SwitchingRun
 pub mod ContinuingRun
 pub mod UnboundedRun
+pub mod KeepingRun

@@ -1,6 +1,7 @@
 -- A start that isn't dual feasible: one pivot in the boxes, where the row's bound is 0 and not its own, and one more behind
--- the switch, so that the count of pivots and the numbers of the majors go on.
-use Rattle.std.specs.Prelude.{[], ◌∷◌, ℕ, List, codes}
+-- the switch, so that the count of pivots and the numbers of the majors go on. The major behind the switch works with the
+-- factor that the switch eliminated.
+use Rattle.std.specs.Prelude.{Some, [], ◌∷◌, ℕ, List, codes}
 use lib.IntN.{pos}
 use Rattle.pami_theory.specs.Form.{Form}
 use Rattle.pami_theory.specs.declared.words.Stand.TheVariants.{Basic, Lower, Upper}
@@ -11,10 +12,40 @@ use Rattle.pami_theory.specs.Start.{starting_basis}
 use Rattle.pami_theory.specs.declared.words.Side.TheVariants.{Above, Below}
 use Rattle.pami_method.specs.Batch.{Reached, Minor}
 use Rattle.pami_method.specs.declared.words.Mode.TheVariants.{Full}
-use Rattle.pami_method.specs.Walk.{Major, State, state_after}
-use Rattle.pami_method.specs.Phases.{Record, switched_state, in_boxes, on_form, Answer, Optimal}
+use Rattle.pami_method.specs.Walk.{Major, State}
+use Rattle.pami_method.specs.Phases.{Record, in_boxes, on_form, Answer, Optimal}
 use Rattle.pami_lines.specs.Certificate.{Named}
-use Rattle.pami_examples.specs.Words.{whole, minus, from, up_to, row, by_lines, named, usual}
+use Rattle.pami_model.specs.declared.model.Sense.TheVariants.{Min}
+use Rattle.pami_model.specs.Contents.{Contents}
+use Rattle.pami_model_form.specs.Named.{named_of}
+use Rattle.pami_examples.specs.Words.{whole, minus, from, up_to, row, by_lines, entry_of}
+
+-- ---- the file, and the model that it says
+
+abbrev pub continuing_file : List ℕ
+continuing_file = by_lines (
+    codes "NAME continuing" ∷
+    codes "ROWS" ∷
+    codes " N cost" ∷
+    codes " L c1" ∷
+    codes "COLUMNS" ∷
+    codes " x cost -1 c1 1" ∷
+    codes " y cost 2 c1 -1" ∷
+    codes "RHS" ∷
+    codes " c1 -1" ∷
+    codes "ENDATA" ∷
+    [])
+
+abbrev pub continuing_contents : Contents
+continuing_contents = record {
+  sense = Min;
+  constant = whole 0;
+  rows = record { name = codes "c1"; bounds = up_to (minus 1) } ∷ [];
+  columns =
+      record { name = codes "x"; cost = minus 1; bounds = from (whole 0); entries = entry_of 0 (whole 1) ∷ [] } ∷
+      record { name = codes "y"; cost = whole 2; bounds = from (whole 0); entries = entry_of 0 (minus 1) ∷ [] } ∷
+      [];
+}
 
 -- ---- the form
 
@@ -112,8 +143,14 @@ continuing_third_fresh = record {
       [];
 }
 
+-- with the factor of the switch, which has no pivots
 abbrev pub continuing_state : State
-continuing_state = switched_state continuing continuing_second_basis 1
+continuing_state = record {
+  basis = continuing_second_basis;
+  weights = 1 ∷ [];
+  count = 1;
+  history = Some (record { head = 0 ∷ []; pivots = [] });
+}
 
 abbrev pub continuing_third : Reached
 continuing_third = record { basis = continuing_second_basis; fresh = continuing_third_fresh; weights = 1 ∷ []; count = 1; rows = row 0 Below (whole 1) (pos 0) ∷ [] }
@@ -154,8 +191,14 @@ continuing_record = record { phase_one = in_boxes continuing (continuing_major_1
 
 -- ---- the answer
 
+-- the factor of the switch, with the pivot of the second major
 abbrev pub continuing_end : State
-continuing_end = state_after usual continuing_state continuing_major_2
+continuing_end = record {
+  basis = continuing_fourth_basis;
+  weights = 1 ∷ [];
+  count = 2;
+  history = Some (record { head = 0 ∷ []; pivots = record { place = 0; column = minus 1 ∷ [] } ∷ [] });
+}
 
 abbrev pub continuing_answer : Answer
 continuing_answer = Optimal continuing_end continuing_fourth_fresh
@@ -163,7 +206,7 @@ continuing_answer = Optimal continuing_end continuing_fourth_fresh
 -- ---- the text
 
 abbrev pub continuing_named : Named
-continuing_named = named continuing 2 (codes "x" ∷ codes "y" ∷ []) (codes "c1" ∷ [])
+continuing_named = named_of continuing_contents
 
 abbrev pub continuing_text : List ℕ
 continuing_text = by_lines (

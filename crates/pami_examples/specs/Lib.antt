@@ -10,3 +10,4 @@ pub mod Overflowing
 pub mod Switching
 pub mod Continuing
 pub mod Unbounded
+pub mod Keeping

@@ -35,6 +35,9 @@ from low = record { low = Some low; high = None }
 abbrev pub up_to : Fraction → Bounds
 up_to high = record { low = None; high = Some high }
 
+abbrev pub fixed : Fraction → Bounds
+fixed x = record { low = Some x; high = Some x }
+
 abbrev pub free : Bounds
 free = record { low = None; high = None }
 

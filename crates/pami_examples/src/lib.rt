@@ -12,6 +12,7 @@ pub mod blending;
 pub mod continuing;
 pub mod dropping;
 pub mod flipping;
+pub mod keeping;
 pub mod overflowing;
 pub mod passing;
 pub mod refusing;

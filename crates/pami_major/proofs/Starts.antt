@@ -1,20 +1,21 @@
 -- The state at the start of a form is one from which a walk may begin.
-use Rattle.std.proofs.Common.{◌≡◌, ◌<◌, ℕ, List, length, replicate, refl, sym, ap, ◌∙◌, subst, arith}
-use Rattle.std.proofs.lemmas.List.{length-replicate, get_or-replicate}
+use Rattle.std.proofs.Common.{◌≡◌, ℕ, List, length, replicate, refl, sym, ap, ◌∙◌, subst, arith}
+use Rattle.std.proofs.lemmas.List.{length-replicate}
 use Rattle.pami_algebra.specs.Fraction.{Fraction}
 use Rattle.pami_frac.specs.declared.list.Bounds.{Bounds}
 use Rattle.pami_theory.specs.Form as theory
 use Rattle.pami_theory.specs.Basis.{IsBasis}
 use Rattle.pami_theory.specs.Fresh.{IsDualFeasible}
 use Rattle.pami_theory.specs.Start.{starting_basis}
-use Rattle.pami_theory.specs.Weights.{weight_at}
 use Rattle.pami_theory.proofs.Starts.{start_is_basis}
 use Rattle.pami_devex.specs.Weights.{AreWeights}
 use Rattle.pami_form.specs.declared.form.Form.{Form}
 use Rattle.pami_state.specs.declared.state.State.{State}
 use Rattle.pami_state.specs.Columns.{form_by, rows_of, IsForm}
 use Rattle.pami_state.specs.State.{basis_of, IsSolvedAfresh}
-use Rattle.pami_major.specs.Ready.{form_of, IsReady}
+use Rattle.pami_form.specs.FormOf.{form_of}
+use Rattle.pami_batch.proofs.StartedStates.{ones_are}
+use Rattle.pami_major.specs.Ready.{IsReady}
 
 -- ---- lists that were lent
 pub lent_form : (columns cs : List (List Fraction)) (bounds bs : List Bounds) (costs ds : List Fraction) (g : theory.Form) → cs ≡ columns → bs ≡ bounds → ds ≡ costs → form_by columns bounds costs ≡ g → form_by cs bs ds ≡ g
@@ -24,16 +25,6 @@ pub lent_kept : (columns cs : List (List Fraction)) (bounds bs : List Bounds) (c
 lent_kept columns cs bounds bs costs ds e h k is = subst (λ x. IsForm x bs ds) (sym e) (subst (λ x. IsForm columns x ds) (sym h) (subst (IsForm columns bounds) (sym k) is))
 
 -- ---- the start
--- weights of 1
-pub ones_are : (n : ℕ) → AreWeights (replicate n 1)
-ones_are n =
-    let ones : List ℕ = replicate n 1 in
-    let k : length ones ≡ n = length-replicate {A = ℕ} n 1 in
-    λ p l.
-    let m : p < length ones = l in
-    let e : weight_at ones p ≡ 1 = get_or-replicate {A = ℕ} n p 1 1 (omega (arith, k, m)) in
-    record { least = omega (arith, e); most = omega (arith, e) }
-
 module _ (form : Form) (limit : ℕ) (st : State) (at : basis_of st ≡ starting_basis (form_of form)) where
   start_places : IsBasis (form_of form) (basis_of st)
   start_places = subst (IsBasis (form_of form)) (sym at) (start_is_basis (form_of form))

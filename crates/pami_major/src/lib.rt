@@ -1,27 +1,22 @@
-//! Majors of one row, and the walk that they make.
+//! Majors over whole batches, and the walk that they make.
 //!
-//! Stands on `pami_chuzr`, `pami_factor`, `pami_price` and `pami_bfrt` for the choice, the solves, the pivot row and the
-//! ratio walk, on `pami_minor` for what the flips of a step change and how long it is, on `pami_state` for the state, on
-//! `pami_form` for the form and on `pami_log` for what is told. The layer above relies on `drive`: from a state that is dual
-//! feasible and solved afresh it is the walk of `pami_method`, with its events and its end. Inside, each part follows a chain
-//! of scripts over the program's lists, and the lemmas of `proofs/` tie these chains to the scripts and steps of the whole form.
+//! Stands on `pami_chuzr` for the choice of rows, on `pami_lu` and `pami_factor` for the factor, on `pami_batch` for
+//! what becomes of the chosen rows, on `pami_rollback` for a state that is given back, on `pami_state` for the state,
+//! on `pami_form` for the form and on `pami_log` for what is told. The layer above relies on `drive`: from a state that
+//! is dual feasible and solved afresh it is the walk of `pami_method`, with its events and its end. `drive` relies on
+//! `major`, whose ends are those of one major of the method, at any batch and with any factor of the head.
 #![tactic(auto)]
 
-mod alone;
-mod behind;
 mod choose;
-mod collect;
-mod one_row;
-mod shift;
-mod solve;
-mod step;
-mod take;
+mod factors;
+mod majors;
+#[cfg(test)]
+mod memory_tests;
 #[cfg(test)]
 mod tests;
-mod tried;
 mod walk;
 mod within;
 
-pub use alone::{MajorEnd, major};
+pub use majors::{MajorEnd, major};
 pub use pami_method::{Mode, Options};
 pub use walk::{WalkEnd, drive};

@@ -1,7 +1,10 @@
-//! Walks that pass boxed variables, over small models. Every expected text and value is worked out from the method by hand.
+//! Walks of whole batches that pass boxed variables, over small models. Every expected text and value is worked out from the method by hand.
+
+ghost use Rattle.std.specs.Prelude.{◌≡◌, IfSome};
+ghost use Rattle.pami_major.specs.Ready.{IsReady};
 
 use crate::{Options, WalkEnd, drive};
-use pami_form::form_of;
+use pami_form::{Form, form_of};
 use pami_frac::{Bounds, Frac, OutOfMemory};
 use pami_log::{ListTeller, print_event, push_place};
 use pami_lu::Steps;
@@ -14,14 +17,14 @@ use std::test::Fail;
 
 /// A column: its cost, its bounds, and its entries in the two rows.
 #[derive(Clone, Copy)]
-struct Column {
+pub(crate) struct Column {
     cost: Frac,
     bounds: Bounds,
     entries: [Frac; 2],
 }
 
 /// A fraction, for numbers that make one.
-fn frac(numerator: i128, denominator: i128) -> Frac {
+pub(crate) fn frac(numerator: i128, denominator: i128) -> Frac {
     match Frac::new(numerator, denominator) {
         Ok(value) => value,
         Err(_) => Frac::zero(),
@@ -32,16 +35,16 @@ fn bounds(low: Option<Frac>, high: Option<Frac>) -> Bounds {
     Bounds { low, high }
 }
 
-fn between(low: i64, high: i64) -> Bounds {
+pub(crate) fn between(low: i64, high: i64) -> Bounds {
     bounds(Some(Frac::whole(low)), Some(Frac::whole(high)))
 }
 
-fn at_least(low: i64) -> Bounds {
+pub(crate) fn at_least(low: i64) -> Bounds {
     bounds(Some(Frac::whole(low)), None)
 }
 
 /// A column of whole numbers.
-fn whole(cost: i64, bounds: Bounds, first: i64, second: i64) -> Column {
+pub(crate) fn whole(cost: i64, bounds: Bounds, first: i64, second: i64) -> Column {
     Column {
         cost: Frac::whole(cost),
         bounds,
@@ -49,24 +52,21 @@ fn whole(cost: i64, bounds: Bounds, first: i64, second: i64) -> Column {
     }
 }
 
-/// The least cost over the rows 1 and 2 and the columns x, y and z, as far as they go.
-fn model_of(
+/// The least cost over the rows 1 and 2 and the columns x, y and z, as far as they go; None where memory runs out.
+pub(crate) fn model_of(
     rt: &impl Abort,
     alloc: Global,
     rows: [Bounds; 2],
     columns: &[Column],
-) -> Result<Model, Fail> {
-    let mut builder = Builder::new(alloc).ok().ok_or("a builder")?;
+) -> Option<Model> {
+    let mut builder = Builder::new(alloc).ok()?;
     for (i, limits) in rows.iter().enumerate() {
         let name = [b'1' + (i % 2) as u8];
-        builder
-            .add_row(name.as_slice(), *limits)
-            .ok()
-            .ok_or("a row")?;
+        builder.add_row(name.as_slice(), *limits).ok()?;
     }
     for (j, it) in columns.iter().enumerate() {
         let name = [b'x' + (j % 3) as u8];
-        let column = builder.add_column(name.as_slice()).ok().ok_or("a column")?;
+        let column = builder.add_column(name.as_slice()).ok()?;
         assert!(rt; column < builder.column_count());
         builder.set_column_bounds(column, it.bounds);
         builder.set_cost(column, it.cost);
@@ -74,13 +74,10 @@ fn model_of(
             let row = (row % 2) as u32;
             assert!(rt; column < builder.column_count());
             assert!(rt; row < builder.row_count());
-            builder
-                .add_entry(column, row, *value)
-                .ok()
-                .ok_or("an entry")?;
+            builder.add_entry(column, row, *value).ok()?;
         }
     }
-    Ok(builder.finish().ok().ok_or("a model")?)
+    builder.finish().ok()
 }
 
 /// How a walk ended, its last state, and what it told.
@@ -91,34 +88,51 @@ struct Outcome {
     teller: ListTeller,
 }
 
-/// The walk from the start of the model's form, with at most nine pivots.
-fn walked(alloc: Global, model: &Model) -> Result<Outcome, Fail> {
-    let form = form_of(alloc, model).ok().ok_or("a form")?;
+/// The options of all walks here: batches of at most four rows, and at most nine pivots.
+pub(crate) fn options() -> Options
+    ensures { result ≡ record { batch = 4; refactor = 16; limit = 9 } }
+{
+    Options {
+        batch: 4,
+        refactor: 16,
+        limit: 9,
+    }
+}
+
+/// The starting state of a form; None where memory runs out, where an operation doesn't fit, or where it isn't dual feasible.
+pub(crate) fn started(alloc: Global, form: &Form) -> Option<State>
+    ensures { IfSome result (IsReady form.now 9) }
+{
     let bounds = form.bounds.as_slice();
-    let mut state = match start(
+    let state = match start(
         alloc,
         form.columns.as_slice(),
         bounds,
         form.costs.as_slice(),
     ) {
         Ok(state) => state,
-        Err(_) => return Err(Fail::from("a start")),
+        Err(_) => return None,
     };
     if !state.dual_feasible(bounds) {
-        return Err(Fail::from("a dual feasible start"));
+        return None;
     }
-    let options = Options {
-        batch: 1,
-        refactor: 0,
-        limit: 9,
-    };
+    Some(state)
+}
+
+/// The walk from the start of the model's form.
+fn walked(alloc: Global, model: &Model) -> Result<Outcome, Fail> {
+    let form = form_of(alloc, model).ok().ok_or("a form")?;
+    let mut state = started(alloc, &form).ok_or("a start")?;
+    let options = options();
     let mut steps = Steps::<()>::new();
+    let mut factor = None;
     let mut tried = 0;
     let mut teller = ListTeller::new(alloc).ok().ok_or("a teller")?;
     match drive(
         alloc,
         &form,
         &mut state,
+        &mut factor,
         &mut tried,
         &options,
         &mut teller,
@@ -162,7 +176,7 @@ fn ends_so(
     stands: &[Stand],
     values: [Frac; 2],
 ) -> Result<(), Fail> {
-    let model = model_of(rt, alloc, rows, columns)?;
+    let model = model_of(rt, alloc, rows, columns).ok_or("a model")?;
     let walk = walked(alloc, &model)?;
     let told = text_of(alloc, &model, &walk)?;
     assert!(rt; told.as_slice() == text.as_bytes(), "{text}");
@@ -221,6 +235,35 @@ fn passed_columns_go_to_their_other_bounds(rt: HostRuntime) -> Result<(), Fail> 
         "major 1 full 0\nflip x:y U\nflip x:x U\npivot 1 0 r:1 L x:z 3\noptimal\n",
         &[Stand::Upper, Stand::Upper, Stand::Basic],
         [Frac::whole(2), Frac::whole(0)],
+    )
+}
+
+/// Both rows are missed at the start, and are worked in one major.
+#[test]
+fn a_major_works_on_a_batch(rt: HostRuntime) -> Result<(), Fail> {
+    // x is flipped for row 1, and enters for row 2 at its upper bound 1.
+    ends_so(
+        &rt,
+        rt.alloc(),
+        [at_least(3), at_least(2)],
+        &[
+            whole(1, between(0, 1), 1, -1),
+            whole(2, at_least(0), 1, 1),
+            whole(5, at_least(0), 0, 1),
+        ],
+        "major 1 full 0 1\nflip x:x U\npivot 1 0 r:1 L x:y 2\npivot 2 1 r:2 L x:x 1/2\noptimal\n",
+        &[Stand::Basic, Stand::Basic, Stand::Lower],
+        [frac(5, 2), frac(1, 2)],
+    )?;
+    // By the pivot for row 1 row 2 is met as well, and is dropped.
+    ends_so(
+        &rt,
+        rt.alloc(),
+        [at_least(8), at_least(4)],
+        &[whole(1, at_least(0), 1, 1)],
+        "major 1 full 0 1\npivot 1 0 r:1 L x:x 1\ndrop 1\noptimal\n",
+        &[Stand::Basic],
+        [Frac::whole(8), Frac::whole(8)],
     )
 }
 
