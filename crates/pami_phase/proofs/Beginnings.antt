@@ -1,5 +1,5 @@
 -- Whatever a stage has told so far, some run of the form begins with it.
-use Rattle.std.proofs.Common.{◌≡◌, ℕ, ◌+◌, ◌≤◌, ⊎_elim, List, [], ◌∷◌, ◌++◌, length, Option, None, Some, refl, sym, ap, ◌∙◌, subst, append_assoc, append-nil, arith}
+use Rattle.std.proofs.Common.{◌≡◌, ℕ, ◌+◌, ◌≤◌, ⊎_elim, List, [], ◌∷◌, ◌++◌, length, Option, None, Some, refl, sym, ap, ◌∙◌, append_assoc, append-nil, arith}
 use Rattle.pami_frac.specs.declared.arithmetic.Refused.{Refused}
 use Rattle.pami_theory.specs.Form.{Form}
 use Rattle.pami_theory.specs.Basis.{Basis, IsBasis}
@@ -12,11 +12,10 @@ use Rattle.pami_theory.proofs.Switched.{switch_is_basis, switch_regular}
 use Rattle.pami_theory.proofs.Decided.{can_or_not}
 use Rattle.pami_method.specs.declared.words.Mode.TheVariants.{Full}
 use Rattle.pami_method.specs.declared.words.Options.{Options}
-use Rattle.pami_method.specs.Factor.{elimination, unfit}
 use Rattle.pami_method.specs.Walk as method
 use Rattle.pami_method.specs.Walk.{State, Major, WalkEnd}
 use Rattle.pami_method.specs.Phases as phases
-use Rattle.pami_method.specs.Phases.{start_refused, starting_state, first_of, switch_refused, switched_state, IsAnswer, IsPhaseOne, IsSwitch, in_phase_two, refused_boxes, in_phase_one, dual_infeasible, refused_switch, in_both}
+use Rattle.pami_method.specs.Phases.{start_refused, starting_state, switch_refused, switched_state, IsAnswer, IsPhaseOne, IsSwitch, in_phase_two, refused_boxes, in_phase_one, dual_infeasible, refused_switch, in_both}
 use Rattle.pami_method.proofs.Counts.{EndsWithin, walk_within}
 use Rattle.pami_method.proofs.Sound.{EndHolds, AnyBasis, any_walk_holds}
 use Rattle.pami_method.proofs.Answers.{phase_one_enters, switched_start}
@@ -26,12 +25,8 @@ use Rattle.pami_log.specs.declared.event.Event.{Event}
 use Rattle.pami_log.specs.declared.event.Event.TheVariants as told
 use Rattle.pami_log.specs.Events.{events_of}
 use Rattle.pami_major.specs.Walks.{BeginsWalk}
-use Rattle.pami_phase.specs.declared.answer.Answer.{Answer}
-use Rattle.pami_phase.specs.declared.answer.Answer.TheVariants as answers
-use Rattle.pami_phase.specs.Histories.{without, SameEnd}
-use Rattle.pami_phase.specs.Runs.{IsAnswerOf, BeginsRun, Starts, StartsInBoxes, LeadsOn, boxes_events, EndsInBoxes}
+use Rattle.pami_phase.specs.Runs.{BeginsRun, Starts, StartsInBoxes, LeadsOn, boxes_events, EndsInBoxes}
 use Rattle.pami_phase.proofs.Further.{begins_front}
-use Rattle.pami_phase.proofs.Histories.{same_walk}
 
 pub begins_any : (f : Form) (o : Options) → 1 ≤ o.batch → BeginsRun f o []
 begins_any f o some =
@@ -49,11 +44,11 @@ end_answer f (method.Overflow r) h = (phases.Overflow r, refl)
 pub walk_begins : (f : Form) (o : Options) (before : List Event) (tried : ℕ) (first : State) (events : List Event) → LeadsOn f o before tried first → IsBasis f first.basis → BeginsWalk f o tried first events → BeginsRun f o (before ++ events)
 walk_begins f o before tried first events leads is b =
     let a = end_answer f b.end (any_walk_holds f o (tried + 1) Full first b.majors b.end is b.walk) in
-    let c = leads b.majors b.end a.0 b.walk a.1 in
+    let c = (leads b.majors b.end a.0 b.walk a.1).0 in
     record {
-      answer = c.0;
+      answer = a.0;
       later = b.later;
-      run = record { record_of = c.1.record_of; run = c.1.run; whole = c.1.whole ∙ ap (λ es. before ++ es) b.whole ∙ sym (append_assoc before events b.later) };
+      run = record { record_of = c.record_of; run = c.run; whole = c.whole ∙ ap (λ es. before ++ es) b.whole ∙ sym (append_assoc before events b.later) };
     }
 
 pub leads_begins : (f : Form) (o : Options) (before : List Event) (tried : ℕ) (first : State) → 1 ≤ o.batch → LeadsOn f o before tried first → IsReady f o first → BeginsRun f o before
@@ -65,52 +60,24 @@ leads_begins f o before tried first some leads r =
 -- ---- phase two alone
 pub start_leads : (f : Form) (o : Options) → Starts f → IsDualFeasible f (starting_basis f) → LeadsOn f o (told.Phase 2 ∷ []) 0 (starting_state f)
 start_leads f o s dual = λ majors end a w i.
-    (a, record { record_of = _; run = in_phase_two s.fresh majors end a s.fresh_is s.fits dual w i; whole = refl }, λ answer h. h)
+    (record { record_of = _; run = in_phase_two s.fresh majors end a s.fresh_is s.fits dual w i; whole = refl }, refl)
 
 pub start_begins : (f : Form) (o : Options) → 1 ≤ o.batch → Starts f → IsDualFeasible f (starting_basis f) → BeginsRun f o (told.Phase 2 ∷ [])
 start_begins f o some s dual =
     leads_begins f o (told.Phase 2 ∷ []) 0 (starting_state f) some (start_leads f o s dual) (record { basis = start_is_basis f; fresh = s.fresh; solved = s.fresh_is; within = omega arith })
 
 -- ---- behind the switch
-unfit_none : (x y : Option Refused) → first_of x y ≡ None → x ≡ None
-unfit_none (Some r) y e = e
-unfit_none None y e = refl
-
--- an answer is the same whatever history its last state has
-optimal_again : (f : Form) (st other : State) (s : Fresh) (answer : Answer) → st.basis ≡ other.basis → st.count ≡ other.count → IsAnswerOf f answer (phases.Optimal st s) → IsAnswerOf f answer (phases.Optimal other s)
-optimal_again f st other s (answers.Optimal state) e n h = record { same = sym e ∙ h.same; counted = sym n ∙ h.counted; basis = h.basis; solved = h.solved; fresh = h.fresh }
-optimal_again f st other s answer e n h = absurd h
-
-limit_again : (f : Form) (st other : State) (answer : Answer) → st.basis ≡ other.basis → st.count ≡ other.count → IsAnswerOf f answer (phases.Limit st) → IsAnswerOf f answer (phases.Limit other)
-limit_again f st other (answers.Limit state) e n h = (sym e ∙ h.0, sym n ∙ h.1, h.2)
-limit_again f st other answer e n h = absurd h
-
-same_answer : (f : Form) (end last : WalkEnd) (a : phases.Answer) → SameEnd end last → IsAnswer f end a → (c : phases.Answer) × IsAnswer f last c × ((answer : Answer) → IsAnswerOf f answer a → IsAnswerOf f answer c)
-same_answer f (method.Optimal st) (method.Optimal other) a same i = (
-  phases.Optimal other i.0,
-  (i.0, subst (λ b. IsFresh f b i.0) same.0 i.1, refl),
-  λ answer h. optimal_again f st other i.0 answer same.0 same.1 (subst (IsAnswerOf f answer) i.2 h),
-)
-same_answer f (method.Limit st) (method.Limit other) a same i = (phases.Limit other, refl, λ answer h. limit_again f st other answer same.0 same.1 (subst (IsAnswerOf f answer) i h))
-same_answer f (method.NoEntering p side row) last a same i = (a, subst (λ (e : WalkEnd). IsAnswer f e a) (sym same) i, λ answer h. h)
-same_answer f (method.Overflow r) last a same i = (a, subst (λ (e : WalkEnd). IsAnswer f e a) (sym same) i, λ answer h. h)
-same_answer f end last a same i = absurd same
-
--- the walk from the switched state without a factor is that of phase two
+-- the walk from the switched state is that of phase two
 pub switch_leads : (f : Form) (o : Options) (majors : List Major) (st : State) (b : Basis) (t : Fresh) → EndsInBoxes f o majors st → IsSwitch f st b t → switch_refused f b t ≡ None
-    → LeadsOn f o (boxes_events f o majors ++ told.Phase 2 ∷ []) (length majors) (without (switched_state f b st.count))
+    → LeadsOn f o (boxes_events f o majors ++ told.Phase 2 ∷ []) (length majors) (switched_state f b st.count)
 switch_leads f o majors st b t ended w e = λ later end a walk i.
-    let first = switched_state f b st.count in
-    let s = ended.starts.starts in
-    let k = same_walk f o first (unfit_none (unfit (elimination f b.head)) _ e) (length majors + 1) Full later end walk in
-    let c = same_answer f end k.0 a k.2 i in (
-      c.0,
+    let s = ended.starts.starts in (
       record {
         record_of = _;
-        run = in_both s.fresh majors st b t later k.0 c.0 s.fresh_is s.fits ended.starts.not_feasible ended.phase w e k.1 c.1;
-        whole = ap (λ es. boxes_events f o majors ++ told.Phase 2 ∷ es) k.3 ∙ sym (append_assoc (boxes_events f o majors) (told.Phase 2 ∷ []) (events_of f o (without first) later));
+        run = in_both s.fresh majors st b t later end a s.fresh_is s.fits ended.starts.not_feasible ended.phase w e walk i;
+        whole = sym (append_assoc (boxes_events f o majors) (told.Phase 2 ∷ []) (events_of f o (switched_state f b st.count) later));
       },
-      c.2,
+      refl,
     )
 
 switch_begins_by : (f : Form) (o : Options) (majors : List Major) (st : State) (b : Basis) (t : Fresh) (x : Option Refused) → 1 ≤ o.batch → EndsInBoxes f o majors st → IsSwitch f st b t → st.count ≤ o.limit → switch_refused f b t ≡ x
@@ -128,7 +95,7 @@ switch_begins_by f o majors st b t (Some refused) some ended w within e =
     }
 switch_begins_by f o majors st b t None some ended w within e =
     let start = switched_start f o majors st b t ended.phase w in
-    leads_begins f o (boxes_events f o majors ++ told.Phase 2 ∷ []) (length majors) (without (switched_state f b st.count)) some
+    leads_begins f o (boxes_events f o majors ++ told.Phase 2 ∷ []) (length majors) (switched_state f b st.count) some
     (switch_leads f o majors st b t ended w e) (record { basis = start.0; fresh = t; solved = w.fresh; within = within })
 
 pub switch_begins : (f : Form) (o : Options) (majors : List Major) (st : State) (b : Basis) (t : Fresh) → 1 ≤ o.batch → EndsInBoxes f o majors st → IsSwitch f st b t → st.count ≤ o.limit

@@ -9,7 +9,7 @@ use Rattle.pami_log.specs.declared.event.Event.{Event}
 use Rattle.pami_log.specs.declared.teller.TellFailed.{TellFailed}
 use Rattle.pami_log.specs.Tellers.{GoesOn, Tells}
 use Rattle.pami_phase.specs.declared.answer.Answer.{Answer}
-use Rattle.pami_phase.specs.Runs.{IsAnswerOf, IsRunBehind, BeginsRun, EndsRun}
+use Rattle.pami_phase.specs.Runs.{IsAnswerOfRun, IsRunBehind, BeginsRun, EndsRun}
 
 stands_on : (stood : List Event → Type 0) → GoesOn stood stood []
 stands_on stood = λ xs h. subst stood (sym (append-nil xs)) h
@@ -71,5 +71,6 @@ module _ (f : Form) (o : Options) where
       → EndsRun f o before stood stood stopped n n r
   short_exit before stood stopped n r y p q begins = subst (EndsRun f o before stood stood stopped n n) (sym (p ∙ ap Err q)) (short before stood stopped n begins)
 
-  pub answered : (before : List Event) (stood stopped : List Event → Type 0) (n : ℕ) (answer : Answer) (a : phases.Answer) → IsRunBehind f o before [] a → IsAnswerOf f answer a → EndsRun f o before stood stood stopped n n (Ok answer)
+  pub answered : (before : List Event) (stood stopped : List Event → Type 0) (n : ℕ) (answer : Answer) (a : phases.Answer) → (run : IsRunBehind f o before [] a) → IsAnswerOfRun f run.record_of answer a
+      → EndsRun f o before stood stood stopped n n (Ok answer)
   answered before stood stopped n answer a run is = ([], a, run, is, stands_on stood, refl)

@@ -2,9 +2,9 @@ pub mod Sides
 pub mod Solved
 pub mod Restood
 pub mod Feasible
-pub mod Histories
 pub mod Starting
 pub mod Further
+pub mod LastStates
 pub mod Beginnings
 pub mod WalkAnswers
 pub mod BoxesEnds

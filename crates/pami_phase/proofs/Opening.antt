@@ -25,7 +25,7 @@ module _ (f : Form) (o : Options) (stood stopped : List Event → Type 0) (n : �
   pub start_unfit : ((s : Fresh) → IsFresh f (starting_basis f) s → start_refused f s ≡ Some refused) → EndsRun f o [] stood stood stopped n n (Ok (answers.Overflow (at_start refused)))
   start_unfit h =
       let s = has_fresh f (starting_basis f) (start_is_basis f) (start_regular f) in
-      answered f o [] stood stopped n (answers.Overflow (at_start refused)) (phases.Overflow (at_start refused)) (record { record_of = _; run = refused_start s.0 refused s.1 (h s.0 s.1); whole = refl }) refl
+      answered f o [] stood stopped n (answers.Overflow (at_start refused)) (phases.Overflow (at_start refused)) (record { record_of = _; run = refused_start s.0 refused s.1 (h s.0 s.1); whole = refl }) (record { is = refl; state = tt })
 
   pub boxes_unfit : StartsInBoxes f → ((t : Fresh) → IsFresh (boxes_of f) (starting_basis (boxes_of f)) t → start_refused (boxes_of f) t ≡ Some refused)
       → EndsRun f o (told.Phase 1 ∷ []) stood stood stopped n n (Ok (answers.Overflow (at_start refused)))
@@ -33,4 +33,4 @@ module _ (f : Form) (o : Options) (stood stopped : List Event → Type 0) (n : �
       let s = starts.starts in
       let t = has_fresh (boxes_of f) (starting_basis (boxes_of f)) (start_is_basis (boxes_of f)) (start_regular (boxes_of f)) in
       answered f o (told.Phase 1 ∷ []) stood stopped n (answers.Overflow (at_start refused)) (phases.Overflow (at_start refused))
-      (record { record_of = _; run = refused_boxes s.fresh t.0 refused s.fresh_is s.fits starts.not_feasible t.1 (h t.0 t.1); whole = refl }) refl
+      (record { record_of = _; run = refused_boxes s.fresh t.0 refused s.fresh_is s.fits starts.not_feasible t.1 (h t.0 t.1); whole = refl }) (record { is = refl; state = tt })

@@ -12,6 +12,7 @@ use Rattle.pami_linear.specs.Lists.{get}
 use Rattle.pami_linear.specs.Sums.{sum_to}
 use Rattle.pami_linear.proofs.Sums.{sum_same}
 use Rattle.pami_frac.specs.declared.arithmetic.Refused.{Refused}
+use Rattle.pami_script.specs.Dense.{dense, dense_from}
 use Rattle.pami_script.specs.Script.{then, each_member, sub_product}
 use Rattle.pami_script.proofs.Scripts.{then_ok, then_go, then_stop}
 use Rattle.pami_script.proofs.Members.{member_is, length_members}
@@ -38,6 +39,15 @@ use Rattle.pami_state.specs.declared.state.State.{State}
 use Rattle.pami_state.proofs.Formed.{variables_are, coefficient_is}
 use Rattle.pami_state.proofs.Signed.{stand_read}
 use Rattle.pami_phase.specs.Switches.{side_script}
+
+-- ---- a vector without entries
+dense_none : (n k : ℕ) → dense_from n k [] ≡ zeros n
+dense_none zero k = refl
+dense_none (suc n) k = ap (λ xs. zero_f ∷ xs) (dense_none n (suc k))
+
+pub dense_zeros : (n : ℕ) → dense n [] ≡ zeros n
+unfolding dense
+dense_zeros n = dense_none n 0
 
 -- ---- the value of the script
 column_less : (f : Form) (v : ℕ) (x : Fraction) (rows next : List Fraction) (i : ℕ) → each_member (λ i t. sub_product t x (coefficient f v i)) 0 rows ≡ Ok next → i < length rows → get next i ≡ get rows i +ᶠ neg_f (x *ᶠ coefficient f v i)

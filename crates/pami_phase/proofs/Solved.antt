@@ -1,5 +1,6 @@
 -- The values behind the switch are those of its basis, and what is refused is the script's first refusal.
-use Rattle.std.proofs.Common.{◌≡◌, ℕ, ◌<◌, List, [], length, refl, sym, ap, ◌∙◌, subst, None, Result, Ok, Err}
+use Rattle.std.proofs.Common.{◌≡◌, ℕ, ◌<◌, List, [], length, refl, sym, ap, ◌∙◌, subst, arith, None, Result, Ok, Err}
+use Rattle.std.specs.Prelude.{All}
 use Rattle.pami_algebra.specs.Fraction.{Fraction}
 use Rattle.pami_algebra.specs.Operations.{neg_f}
 use Rattle.pami_linear.specs.Lists.{get}
@@ -19,7 +20,11 @@ use Rattle.pami_factoring.specs.declared.kept.LuFault.{LuFault}
 use Rattle.pami_factoring.specs.declared.kept.LuFault.TheVariants.{Singular, Refused as Unfit}
 use Rattle.pami_factoring.specs.Factor.{matrix_of, elimination_script, basis_columns}
 use Rattle.pami_factoring.specs.Solve.{forward_script, ColumnPivot}
-use Rattle.pami_factoring.proofs.Matrices.{head_singular}
+use Rattle.pami_factoring.specs.Steps.{columns_of}
+use Rattle.pami_factoring.proofs.Matrices.{head_singular, matrix_count, matrix_square, matrix_entry}
+use Rattle.pami_factoring.proofs.Programs.{step_count}
+use Rattle.pami_factoring.proofs.Solves.{forward_solution, forward_length}
+use Rattle.pami_factoring.specs.History.{IsColumnPivot}
 use Rattle.pami_theory.specs.Form.{zero_f}
 use Rattle.pami_theory.specs.Basis.{Basis, head_at, IsBasis, IsRegularBasis, basis_column}
 use Rattle.pami_theory.specs.Fresh.{Fresh, IsFresh, nonbasic_sum, value_at_place}
@@ -29,11 +34,15 @@ use Rattle.pami_theory.proofs.Tables.{tabled_length, tabled_at}
 use Rattle.pami_method.specs.Task.{refusal}
 use Rattle.pami_method.specs.Factor.{elimination, unfit, refusal_by}
 use Rattle.pami_method.specs.Phases.{switch_refused, first_of}
-use Rattle.pami_state.specs.Columns.{form_by, IsForm}
+use Rattle.pami_state.specs.Columns.{rows_of, form_by, IsForm}
 use Rattle.pami_state.specs.State.{basis_of, values_by_place, IsSolvedAfresh}
 use Rattle.pami_state.specs.declared.state.State.{State}
-use Rattle.pami_major.proofs.Laid.{matrix_is, regular_columns}
-use Rattle.pami_major.proofs.Pivoted.{forward_solves}
+use Rattle.pami_phase.specs.declared.switch.SolvedValues.{SolvedValues}
+use Rattle.pami_phase.specs.declared.switch.SwitchedState.{SwitchedState}
+use Rattle.pami_deferral.proofs.Histories.{history_new}
+use Rattle.pami_factor.specs.Value.{Product}
+use Rattle.pami_batch.specs.Factors.{IsFactorOf}
+use Rattle.pami_major.proofs.Laid.{matrix_is, basis_columns_are, regular_columns}
 use Rattle.pami_phase.specs.Switches.{with_steps, side_script, switch_script, FollowsSteps}
 use Rattle.pami_phase.proofs.Sides.{side_value, side_length}
 
@@ -73,6 +82,30 @@ switch_parts (Ok ks) s x n h = let a = then_ok s (λ rows. forward_script ks [] 
 switch_parts (Err (Unfit r)) s x n h = absurd (cc)
 switch_parts (Err (Singular q)) s x n h = absurd (n q refl)
 
+no_pivots : (m : ℕ) → All (IsColumnPivot m) []
+no_pivots m = λ i d l. absurd (omega arith)
+
+-- what an elimination solves
+forward_solves : (columns : List (List Fraction)) (bounds : List Bounds) (costs : List Fraction) (b : Basis) (ks : List Kept) (right x : List Fraction) → IsForm columns bounds costs → IsBasis (form_by columns bounds costs) b
+    → elimination (form_by columns bounds costs) b.head ≡ Ok ks → length right ≡ rows_of columns → forward_script ks [] right ≡ Ok x
+    → (length x ≡ rows_of columns) × Solves (rows_of columns) (basis_column (form_by columns bounds costs) b) (get x) (get right)
+forward_solves columns bounds costs b ks right x form is e l h =
+    let f = form_by columns bounds costs in
+    let rows = matrix_of columns b.head in
+    let p : length b.head ≡ rows_of columns = is.places in
+    let n : length rows ≡ length b.head = matrix_count columns b.head in
+    let k : elimination_script rows ≡ Ok ks = ap elimination_script (sym (matrix_is columns bounds costs b form is)) ∙ e in
+    let solved : Solves (length rows) (columns_of rows) (get x) (get right) = forward_solution rows ks [] right x (matrix_square columns b.head) k (no_pivots (length rows)) (omega arith) h in (
+      forward_length ks [] right x h ∙ l,
+      solves_same (rows_of columns) (columns_of rows) (basis_column f b) (get x) (get x) (get right) (get right)
+          (λ q i a c. matrix_entry columns b.head q i (omega arith) (omega arith) ∙ basis_columns_are columns bounds costs b q i form is a c) (λ q a. refl) (λ i a. refl)
+          (subst (λ m. Solves m (columns_of rows) (get x) (get right)) (n ∙ p) solved),
+    )
+
+-- an elimination has a step for each place
+pub head_steps : (columns : List (List Fraction)) (head : List ℕ) (ks kept : List Kept) → elimination_script (matrix_of columns head) ≡ Ok ks → kept ≡ ks → length kept ≡ length head
+head_steps columns head ks kept e h = ap length h ∙ step_count (matrix_of columns head) ks (matrix_square columns head) e ∙ matrix_count columns head
+
 -- ---- the values
 pub values_are : (columns : List (List Fraction)) (bounds : List Bounds) (costs : List Fraction) (b : Basis) (t : Fresh) (x : List Fraction) → IsForm columns bounds costs → IsBasis (form_by columns bounds costs) b → IsFresh (form_by columns bounds costs) b t
     → switch_script (form_by columns bounds costs) b t ≡ Ok x → x ≡ values_by_place (form_by columns bounds costs) b t
@@ -93,13 +126,18 @@ values_are columns bounds costs b t x form is fresh h =
 pub script_by : {A : Type 0} (s u : Result A Refused) (r : Result A (Fault Refused)) → s ≡ u → FollowsBy (λ v. v) u r → FollowsBy (λ v. v) s r
 script_by s u r e h = subst (λ z. FollowsBy (λ v. v) z r) (sym e) h
 
-fault_follows : (script : Result (List Fraction) Refused) (e : Fault Refused) → FollowsBy {A = List Fraction} {B = List Fraction} (λ v. v) script (Err e) → Follows {A = State} (refusal script) (Err e)
+-- a refusal that is handed on
+pub passed_on : (script : Result (List Fraction) Refused) (r : Result SolvedValues (Fault Refused)) (y e : Fault Refused) → r ≡ Err y → y ≡ e
+    → FollowsBy {A = List Fraction} {B = SolvedValues} (λ s. s.values) script (Err e) → FollowsBy {A = List Fraction} {B = SolvedValues} (λ s. s.values) script r
+passed_on script r y e p q h = subst (λ (x : Result SolvedValues (Fault Refused)). FollowsBy (λ s. s.values) script x) (sym (p ∙ ap Err q)) h
+
+fault_follows : (script : Result (List Fraction) Refused) (e : Fault Refused) → FollowsBy {A = List Fraction} {B = SolvedValues} (λ s. s.values) script (Err e) → Follows {A = SwitchedState} (refusal script) (Err e)
 fault_follows script (faults.Named r) h = ap refusal h
 fault_follows script faults.OutOfMemory h = tt
 
 module _ (columns : List (List Fraction)) (bounds : List Bounds) (costs : List Fraction) (b : Basis) (form : IsForm columns bounds costs) (is : IsBasis (form_by columns bounds costs) b) (r : IsRegularBasis (form_by columns bounds costs) b) where
-  pub fault_is : (t : Fresh) (e : Fault Refused) → FollowsBy {A = List Fraction} {B = List Fraction} (λ v. v) (switch_script (form_by columns bounds costs) b t) (Err e) → Follows {A = State} (switch_refused (form_by columns bounds costs) b t) (Err e)
-  fault_is t e h = subst (λ z. Follows {A = State} z (Err e)) (sym (refused_is columns bounds costs b t form is r)) (fault_follows (switch_script (form_by columns bounds costs) b t) e h)
+  pub fault_is : (t : Fresh) (e : Fault Refused) → FollowsBy {A = List Fraction} {B = SolvedValues} (λ s. s.values) (switch_script (form_by columns bounds costs) b t) (Err e) → Follows {A = SwitchedState} (switch_refused (form_by columns bounds costs) b t) (Err e)
+  fault_is t e h = subst (λ z. Follows {A = SwitchedState} z (Err e)) (sym (refused_is columns bounds costs b t form is r)) (fault_follows (switch_script (form_by columns bounds costs) b t) e h)
 
   pub none_refused : (t : Fresh) (x : List Fraction) → switch_script (form_by columns bounds costs) b t ≡ Ok x → switch_refused (form_by columns bounds costs) b t ≡ None
   none_refused t x h = refused_is columns bounds costs b t form is r ∙ ap refusal h
@@ -116,14 +154,14 @@ module _ (columns : List (List Fraction)) (bounds : List Bounds) (costs : List F
         reduced = d s.0 s.1;
       }
 
-  pub unfit_follows : (t : Fresh) (e : Fault Refused) → FollowsSteps (elimination_script (matrix_of columns b.head)) (Err e) → FollowsBy {A = List Fraction} {B = List Fraction} (λ v. v) (switch_script (form_by columns bounds costs) b t) (Err e)
+  pub unfit_follows : (t : Fresh) (e : Fault Refused) → FollowsSteps (elimination_script (matrix_of columns b.head)) (Err e) → FollowsBy {A = List Fraction} {B = SolvedValues} (λ s. s.values) (switch_script (form_by columns bounds costs) b t) (Err e)
   unfit_follows t (faults.Named r) h =
       steps_unfit (elimination (form_by columns bounds costs) b.head) (λ ks. then (side_script (form_by columns bounds costs) b t) (λ rows. forward_script ks [] rows)) r
       (elimination_is columns bounds costs b form is ∙ h)
   unfit_follows t faults.OutOfMemory h = tt
 
   pub side_follows : (t : Fresh) (ks : List Kept) (e : Fault Refused) → elimination_script (matrix_of columns b.head) ≡ Ok ks → FollowsBy {A = List Fraction} {B = List Fraction} (λ v. v) (side_script (form_by columns bounds costs) b t) (Err e)
-      → FollowsBy {A = List Fraction} {B = List Fraction} (λ v. v) (switch_script (form_by columns bounds costs) b t) (Err e)
+      → FollowsBy {A = List Fraction} {B = SolvedValues} (λ s. s.values) (switch_script (form_by columns bounds costs) b t) (Err e)
   side_follows t ks (faults.Named r) h k =
       steps_go (elimination (form_by columns bounds costs) b.head) (λ ks. then (side_script (form_by columns bounds costs) b t) (λ rows. forward_script ks [] rows)) ks (elimination_is columns bounds costs b form is ∙ h)
       ∙ then_stop (side_script (form_by columns bounds costs) b t) (λ rows. forward_script ks [] rows) r k
@@ -136,6 +174,21 @@ module _ (columns : List (List Fraction)) (bounds : List Bounds) (costs : List F
       (steps_go (elimination (form_by columns bounds costs) b.head) (λ ks. then (side_script (form_by columns bounds costs) b t) (λ rows. forward_script ks [] rows)) ks (elimination_is columns bounds costs b form is ∙ h)
       ∙ then_go (side_script (form_by columns bounds costs) b t) (λ rows. forward_script ks [] rows) rows k
       ∙ ap (λ (z : List Kept). forward_script z [] rows) (sym i) ∙ ap (λ (z : List ColumnPivot). forward_script kept z rows) (sym j)) m
+
+  -- a refusal of the solve
+  pub solve_fails : (t : Fresh) (e : Fault Refused) → FollowsBy {A = List Fraction} {B = List Fraction} (λ v. v) (switch_script (form_by columns bounds costs) b t) (Err e)
+      → FollowsBy {A = List Fraction} {B = SolvedValues} (λ s. s.values) (switch_script (form_by columns bounds costs) b t) (Err e)
+  solve_fails t (faults.Named r) h = h
+  solve_fails t faults.OutOfMemory h = tt
+
+  -- the factor that the elimination gave
+  pub factor_is : (ks : List Kept) (factor : Product) → elimination_script (matrix_of columns b.head) ≡ Ok ks → factor.steps ≡ ks → factor.pivots ≡ []
+      → IsFactorOf (form_by columns bounds costs) (record { head = b.head; pivots = [] }) b factor
+  factor_is ks factor h i j = record {
+    stands = history_new (form_by columns bounds costs) b is;
+    steps = elimination_is columns bounds costs b form is ∙ h ∙ ap Ok (sym i);
+    pivots = j;
+  }
 
   pub any_fresh : (t : Fresh) × IsFresh (form_by columns bounds costs) b t
   any_fresh = has_fresh (form_by columns bounds costs) b is r

@@ -12,8 +12,9 @@ use Rattle.pami_frac.specs.declared.list.Bounds.{Bounds}
 use Rattle.pami_state.specs.Columns.{HasBounds}
 use Rattle.pami_state.specs.State.{basis_of, IsSolvedAfresh}
 use Rattle.pami_state.proofs.Formed.{has_bounds}
-use Rattle.pami_major.specs.Ready.{form_of, IsReady}
-use Rattle.pami_major.specs.Walks.{walk_state}
+use Rattle.pami_form.specs.FormOf.{form_of}
+use Rattle.pami_major.specs.Ready.{IsReady}
+use Rattle.pami_major.specs.EndsMajor.{walk_state}
 use Rattle.pami_major.proofs.Starts.{starts_at}
 use Rattle.pami_phase.specs.Starts.{IsStart}
 use Rattle.pami_phase.specs.Runs.{Starts}

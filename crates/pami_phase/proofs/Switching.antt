@@ -11,6 +11,7 @@ use Rattle.pami_theory.proofs.Switched.{switch_is_basis, switch_regular}
 use Rattle.pami_theory.proofs.Boxed.{can_iff}
 use Rattle.pami_method.specs.declared.words.Options.{Options}
 use Rattle.pami_method.specs.declared.words.Spot.TheVariants.{Switch}
+use Rattle.pami_method.specs.Factor.{History}
 use Rattle.pami_method.specs.Walk as method
 use Rattle.pami_method.specs.Phases as phases
 use Rattle.pami_method.specs.Phases.{switch_refused, switched_state, IsSwitch, dual_infeasible, refused_switch}
@@ -21,14 +22,16 @@ use Rattle.pami_state.specs.State.{basis_of, IsSolvedAfresh}
 use Rattle.pami_state.proofs.Formed.{has_bounds}
 use Rattle.pami_log.specs.declared.event.Event.{Event}
 use Rattle.pami_log.specs.declared.event.Event.TheVariants as told
-use Rattle.pami_major.specs.Ready.{form_of, IsReady}
-use Rattle.pami_major.specs.Walks.{walk_state}
-use Rattle.pami_major.proofs.Underway.{values_at_places}
+use Rattle.pami_form.specs.FormOf.{form_of}
+use Rattle.pami_major.specs.Ready.{IsReady}
+use Rattle.pami_factor.specs.Value.{Product}
+use Rattle.pami_batch.specs.Factors.{IsFactorOf, HasFactor}
+use Rattle.pami_major.specs.EndsMajor.{walk_state}
+use Rattle.pami_major.proofs.Places.{values_at_places}
 use Rattle.pami_phase.specs.declared.answer.Answer.TheVariants as answers
-use Rattle.pami_phase.specs.Histories.{without}
 use Rattle.pami_phase.specs.Runs.{BeginsRun, EndsRun, LeadsOn, boxes_events, EndsInBoxes, IsBoxesEnd, IsSwitchedFrom, IsSwitchable}
 use Rattle.pami_phase.proofs.Feasible.{same_reduced}
-use Rattle.pami_major.proofs.Starts.{ones_are}
+use Rattle.pami_batch.proofs.StartedStates.{ones_are}
 use Rattle.pami_phase.proofs.Further.{answered}
 use Rattle.pami_phase.proofs.Beginnings.{switch_leads, switch_begins, phase_one_begins}
 
@@ -95,7 +98,10 @@ module _ (form boxes : Form) (limit : ℕ) (state : State) (e : form_of boxes �
             run = dual_infeasible s.fresh a.fresh majors st s.fresh_is s.fits ended.ended.starts.not_feasible ended.ended.phase (λ can. never (subst (CanBeDualFeasible f) ended.same can)) fresh;
             whole = refl;
           })
-          (record { same = ended.same; counted = ended.counted; basis = boxes_basis; solved = a; fresh = refl }, e)
+          (record {
+            is = (record { same = ended.same; counted = ended.counted; weights = ended.weights; basis = boxes_basis; solved = a; fresh = refl }, e);
+            state = record { basis = boxes_basis; solved = a };
+          })
 
 -- what phase one told so far
 pub ended_begins : (f : theory.Form) (o : Options) (majors : List method.Major) (st : method.State) → 1 ≤ o.batch → EndsInBoxes f o majors st → BeginsRun f o (boxes_events f o majors)
@@ -129,21 +135,30 @@ module _ (f : theory.Form) (o : Options) (majors : List method.Major) (st : meth
         run = refused_switch s.fresh majors st (basis_of moved) t.0 refused s.fresh_is s.fits from.ended.starts.not_feasible from.ended.phase (switch_is t.0 t.1) (h t.0 t.1);
         whole = sym (append-nil before);
       })
-      refl
+      (record { is = refl; state = tt })
 
   -- the state that is switched to
   module _ (next : State) (b : basis_of next ≡ basis_of moved) (w : next.weights ≡ replicate f.rows 1) (p : next.pivots ≡ moved.pivots) where
-    state_is : without (switched_state f (basis_of moved) st.count) ≡ walk_state next None
-    state_is =
-        ap (λ (x : Basis). record { basis = x; weights = replicate f.rows 1; count = st.count; history = None }) (sym b)
-        ∙ ap (λ (x : List ℕ). record { basis = basis_of next; weights = x; count = st.count; history = None }) (sym w)
-        ∙ ap (λ k. record { basis = basis_of next; weights = next.weights; count = k; history = None }) (from.counted ∙ sym p)
+    -- its factor is new
+    abbrev pub new_history : History
+    new_history = record { head = next.head; pivots = [] }
 
-    pub switched_leads : ((t : Fresh) → IsFresh f (basis_of moved) t → switch_refused f (basis_of moved) t ≡ None) → LeadsOn f o before tried (walk_state next None)
+    state_is : switched_state f (basis_of moved) st.count ≡ walk_state next (Some new_history)
+    state_is =
+        ap (λ (x : Basis). record { basis = x; weights = replicate f.rows 1; count = st.count; history = Some (record { head = x.head; pivots = [] }) }) (sym b)
+        ∙ ap (λ (x : List ℕ). record { basis = basis_of next; weights = x; count = st.count; history = Some new_history }) (sym w)
+        ∙ ap (λ k. record { basis = basis_of next; weights = next.weights; count = k; history = Some new_history }) (from.counted ∙ sym p)
+
+    pub switched_leads : ((t : Fresh) → IsFresh f (basis_of moved) t → switch_refused f (basis_of moved) t ≡ None) → LeadsOn f o before tried (walk_state next (Some new_history))
     switched_leads h =
         let t = any_fresh in
-        subst (λ k. LeadsOn f o before k (walk_state next None)) (sym from.tried_is)
+        subst (λ k. LeadsOn f o before k (walk_state next (Some new_history))) (sym from.tried_is)
         (subst (LeadsOn f o before (length majors)) state_is (switch_leads f o majors st (basis_of moved) t.0 from.ended (switch_is t.0 t.1) (h t.0 t.1)))
+
+-- its factor is the one that the switch eliminated
+pub next_factor : (f : theory.Form) (moved next : State) (factor : Product) → basis_of next ≡ basis_of moved → IsFactorOf f (record { head = moved.head; pivots = [] }) (basis_of moved) factor
+    → HasFactor f (Some (record { head = next.head; pivots = [] })) (basis_of next) (Some factor)
+next_factor f moved next factor b k = subst (λ (x : Basis). IsFactorOf f (record { head = x.head; pivots = [] }) x factor) (sym b) k
 
 -- phase two may begin there
 pub next_ready : (form : Form) (limit : ℕ) (moved next : State) → IsSwitchable (form_of form) limit moved → basis_of next ≡ basis_of moved → IsSolvedAfresh (form_of form) next → next.weights ≡ replicate (form_of form).rows 1 → next.pivots ≡ moved.pivots

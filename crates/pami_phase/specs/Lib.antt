@@ -1,4 +1,3 @@
 pub mod Switches
-pub mod Histories
 pub mod Starts
 pub mod Runs

@@ -4,6 +4,7 @@ ghost use Rattle.std.specs.Prelude.{◌≡◌, ◌<◌, ◌^◌, IfOk, map, leng
 ghost use Rattle.pami_algebra.specs.Operations.{neg_f};
 ghost use Rattle.pami_method.specs.Phases.{ray as the_ray};
 
+use pami_factor::Factor;
 use pami_form::Form;
 use pami_frac::{Frac, OutOfMemory};
 use pami_log::Place;
@@ -14,14 +15,25 @@ use std::alloc::Global;
 /// What a form is answered.
 #[derive(Debug, Drop)]
 pub enum Answer {
-    /// The last state, whose values and reduced costs are those of an optimal point.
-    Optimal { state: State },
+    /// The last state, whose values and reduced costs are those of an optimal point, and the factor of its head: that of the
+    /// last kept major, else that of the switch, and none exactly where there was neither.
+    Optimal {
+        state: State,
+        factor: Option<Factor>,
+    },
     /// No point is feasible: y, by row.
-    Infeasible { y: SpVec },
+    Infeasible {
+        y: SpVec,
+    },
     /// The costs fall along a ray: the last state of phase one, whose values are the ray, with the form in the boxes.
-    DualInfeasible { state: State, form: Form },
+    DualInfeasible {
+        state: State,
+        form: Form,
+    },
     /// The last state at the limit of pivots.
-    Limit { state: State },
+    Limit {
+        state: State,
+    },
     /// An operation that didn't fit, with its script.
     Overflow(Place),
 }

@@ -1,23 +1,29 @@
 //! A whole run on a form: the start, phase one in the boxes where it is needed, the switch, phase two.
 //! (Koberstein 2005, chapter 4.)
 
-ghost use Rattle.std.specs.Prelude.{◌≡◌, ◌≤◌, ◌+◌, ◌^◌, ℕ, List, [], ◌∷◌, ◌++◌, length, None, IfOk};
+ghost use Rattle.std.specs.Prelude.{◌≡◌, ◌≤◌, ◌+◌, ◌^◌, ℕ, List, [], ◌∷◌, ◌++◌, length, Option, IfOk};
 ghost use Rattle.pami_theory.specs.Fresh.{Fresh, IsFresh, IsDualFeasible};
 ghost use Rattle.pami_theory.specs.Start.{starting_basis};
 ghost use Rattle.pami_theory.specs.Boxes.{boxes_of};
+ghost use Rattle.pami_method.specs.Factor.{History};
 ghost use Rattle.pami_method.specs.Walk.{State as MethodState, Major, Optimal, IsOptions};
 ghost use Rattle.pami_method.specs.Phases.{IsPhaseOne, start_refused, starting_state};
 ghost use Rattle.pami_frac.specs.Answers.{Follows};
 ghost use Rattle.pami_log.specs.declared.event.Event.{Event as ToldEvent};
 ghost use Rattle.pami_log.specs.Events.{events_of};
 ghost use Rattle.pami_state.specs.State.{basis_of};
-ghost use Rattle.pami_major.specs.Ready.{form_of, IsReady};
-ghost use Rattle.pami_major.specs.Walks.{IsOneRow, walk_state};
+ghost use Rattle.pami_form.specs.FormOf.{form_of};
+ghost use Rattle.pami_batch.specs.Factors.{HasFactor};
+ghost use Rattle.pami_major.specs.Ready.{IsReady};
+ghost use Rattle.pami_major.specs.EndsMajor.{walk_state};
+ghost use Rattle.pami_major.specs.Walks.{HasSomeFactor};
 ghost use Rattle.pami_phase.specs.Runs.{EndsRun, HasCertificate, LeadsOn, StartsInBoxes, IsBoxesEnd, IsSwitchedFrom, IsSwitchable, boxes_events};
 ghost use Rattle.pami_phase.specs.Starts.{IsStart};
+ghost use Rattle.pami_phase.specs.declared.answer.Answer.{Answer as ToldAnswer};
 
 use crate::answer::{Answer, ray};
 use crate::switch::{can_be_dual_feasible, moved_to_bounds, switched};
+use pami_factor::Factor;
 use pami_form::{Form, phase_one_form};
 use pami_frac::{Fault, Refused};
 use pami_log::{Event, Place, Spot, TellFailed, Teller};
@@ -25,6 +31,13 @@ use pami_lu::Steps;
 use pami_major::{Options, WalkEnd, drive};
 use pami_state::{State, start};
 use std::alloc::Global;
+
+/// What is answered where an operation of this script doesn't fit.
+fn overflow(task: Spot, refused: Refused) -> Answer
+    ensures { result ≡ ToldAnswer.Overflow (record { task = task; refused = refused }) }
+{
+    Answer::Overflow(Place { task, refused })
+}
 
 /// The last state of phase one, which is optimal in the boxes, and the count of majors that were tried.
 #[derive(Debug, Drop)]
@@ -51,7 +64,7 @@ pub(crate) fn started(alloc: Global, form: &Form) -> Result<State, Fault<Refused
     )
 }
 
-/// Phase two from a state of the form, behind so many majors.
+/// Phase two from a state of the form, with a factor of its head or none, behind so many majors.
 ///
 /// # Errors
 ///
@@ -60,22 +73,35 @@ fn phase_two<T: Teller, L>(
     alloc: Global,
     form: &Form,
     first: State,
+    factor: Option<Factor>,
     tried: u64,
     options: &Options,
     teller: &mut T,
     steps: &mut Steps<L>,
 ) -> Result<Answer, Fault<TellFailed>>
     requires options { IsOptions options.now }
-    requires one_row { IsOneRow options.now }
     requires ready { IsReady form.now options.now.limit first }
+    requires factor { HasSomeFactor (form_of form.now) first factor }
     requires number { tried ≤ 2 ^ 62 }
-    ensures { (before : List ToldEvent) → LeadsOn (form_of form.now) options.now before tried (walk_state first None)
-        → EndsRun (form_of form.now) options.now before (T.stands teller.old) (T.stands teller.new) (T.stopped teller.new) (T.faults teller.old) (T.faults teller.new) result }
+    ensures { (before : List ToldEvent) (h : Option History) → HasFactor (form_of form.now) h (basis_of first) factor
+        → LeadsOn (form_of form.now) options.now before tried (walk_state first h)
+        → EndsRun (form_of form.now) options.now before
+        (T.stands teller.old) (T.stands teller.new) (T.stopped teller.new) (T.faults teller.old) (T.faults teller.new) result }
 {
     let mut state = first;
+    let mut factor = factor;
     let mut tried = tried;
-    match drive(alloc, form, &mut state, &mut tried, options, teller, steps) {
-        Ok(WalkEnd::Optimal) => Ok(Answer::Optimal { state }),
+    match drive(
+        alloc,
+        form,
+        &mut state,
+        &mut factor,
+        &mut tried,
+        options,
+        teller,
+        steps,
+    ) {
+        Ok(WalkEnd::Optimal) => Ok(Answer::Optimal { state, factor }),
         Ok(WalkEnd::Limit) => Ok(Answer::Limit { state }),
         Ok(
             WalkEnd::NoEntering {
@@ -92,13 +118,14 @@ fn phase_two<T: Teller, L>(
     }
 }
 
-/// What follows an optimal end of phase one whose basis can be dual feasible: the switch, and phase two. `moved` is its state
-/// with the variables on the form's own bounds, and `tried` counts the majors so far.
+/// What a run is answered behind an optimal end of phase one whose basis can be dual feasible: the switch, and phase two,
+/// whose first factor is the elimination of the switch. `moved` is its state with the variables on the form's own bounds, and
+/// `tried` counts the majors so far.
 ///
 /// # Errors
 ///
 /// Those of `solve`.
-fn switch_on<T: Teller, L>(
+fn answer_behind_switch<T: Teller, L>(
     alloc: Global,
     form: &Form,
     moved: State,
@@ -108,29 +135,31 @@ fn switch_on<T: Teller, L>(
     steps: &mut Steps<L>,
 ) -> Result<Answer, Fault<TellFailed>>
     requires options { IsOptions options.now }
-    requires one_row { IsOneRow options.now }
     requires ready { IsSwitchable (form_of form.now) options.now.limit moved }
     requires number { tried ≤ 2 ^ 62 }
     ensures { (majors : List Major) (st : MethodState) → IsSwitchedFrom (form_of form.now) options.now majors st moved tried
-        → EndsRun (form_of form.now) options.now (boxes_events (form_of form.now) options.now majors) (T.stands teller.old) (T.stands teller.new) (T.stopped teller.new) (T.faults teller.old) (T.faults teller.new) result }
+        → EndsRun (form_of form.now) options.now (boxes_events (form_of form.now) options.now majors)
+        (T.stands teller.old) (T.stands teller.new) (T.stopped teller.new) (T.faults teller.old) (T.faults teller.new) result }
 {
     teller.tell(&Event::Phase(2))?;
     match switched(alloc, form, moved, steps) {
-        Ok(next) => phase_two(alloc, form, next, tried, options, teller, steps),
-        Err(Fault::Named(refused)) => Ok(Answer::Overflow(Place {
-            task: Spot::Switch,
-            refused,
-        })),
+        Ok(next) => {
+            let factor = Some(next.factor);
+            phase_two(
+                alloc, form, next.state, factor, tried, options, teller, steps,
+            )
+        }
+        Err(Fault::Named(refused)) => Ok(overflow(Spot::Switch, refused)),
         Err(Fault::OutOfMemory) => Err(Fault::OutOfMemory),
     }
 }
 
-/// What follows an optimal end of phase one.
+/// What a run is answered behind an optimal end of phase one.
 ///
 /// # Errors
 ///
 /// Those of `solve`.
-fn behind<T: Teller, L>(
+fn answer_behind_boxes<T: Teller, L>(
     alloc: Global,
     form: &Form,
     end: BoxesEnd,
@@ -139,16 +168,16 @@ fn behind<T: Teller, L>(
     steps: &mut Steps<L>,
 ) -> Result<Answer, Fault<TellFailed>>
     requires options { IsOptions options.now }
-    requires one_row { IsOneRow options.now }
     requires boxes { form_of end.form ≡ boxes_of (form_of form.now) }
     requires ready { IsReady end.form options.now.limit end.state }
     requires number { end.tried ≤ 2 ^ 62 }
     ensures { (majors : List Major) (st : MethodState) → IsBoxesEnd (form_of form.now) options.now majors st end.state end.tried
-        → EndsRun (form_of form.now) options.now (boxes_events (form_of form.now) options.now majors) (T.stands teller.old) (T.stands teller.new) (T.stopped teller.new) (T.faults teller.old) (T.faults teller.new) result }
+        → EndsRun (form_of form.now) options.now (boxes_events (form_of form.now) options.now majors)
+        (T.stands teller.old) (T.stands teller.new) (T.stopped teller.new) (T.faults teller.old) (T.faults teller.new) result }
 {
     let moved = moved_to_bounds(alloc, form, &end.state)?;
     if can_be_dual_feasible(form, &moved) {
-        return switch_on(alloc, form, moved, end.tried, options, teller, steps);
+        return answer_behind_switch(alloc, form, moved, end.tried, options, teller, steps);
     }
     Ok(Answer::DualInfeasible {
         state: end.state,
@@ -171,16 +200,24 @@ fn walk_boxes<T: Teller, L>(
     steps: &mut Steps<L>,
 ) -> Result<Answer, Fault<TellFailed>>
     requires options { IsOptions options.now }
-    requires one_row { IsOneRow options.now }
     requires boxes { form_of boxes ≡ boxes_of (form_of form.now) }
     requires start { IsStart (boxes_of (form_of form.now)) first }
     ensures { StartsInBoxes (form_of form.now)
-        → EndsRun (form_of form.now) options.now (ToldEvent.Phase 1 ∷ []) (T.stands teller.old) (T.stands teller.new) (T.stopped teller.new) (T.faults teller.old) (T.faults teller.new) result }
+        → EndsRun (form_of form.now) options.now (ToldEvent.Phase 1 ∷ [])
+        (T.stands teller.old) (T.stands teller.new) (T.stopped teller.new) (T.faults teller.old) (T.faults teller.new) result }
 {
     let mut state = first;
+    let mut factor = None;
     let mut tried = 0;
     let end = drive(
-        alloc, &boxes, &mut state, &mut tried, options, teller, steps,
+        alloc,
+        &boxes,
+        &mut state,
+        &mut factor,
+        &mut tried,
+        options,
+        teller,
+        steps,
     )?;
     match &end {
         WalkEnd::Optimal => {
@@ -189,7 +226,7 @@ fn walk_boxes<T: Teller, L>(
                 state,
                 tried,
             };
-            behind(alloc, form, last, options, teller, steps)
+            answer_behind_boxes(alloc, form, last, options, teller, steps)
         }
         WalkEnd::Limit => Ok(Answer::Limit { state }),
         // The point 0 is feasible in the boxes.
@@ -211,18 +248,15 @@ fn phase_one<T: Teller, L>(
     steps: &mut Steps<L>,
 ) -> Result<Answer, Fault<TellFailed>>
     requires options { IsOptions options.now }
-    requires one_row { IsOneRow options.now }
     ensures { StartsInBoxes (form_of form.now)
-        → EndsRun (form_of form.now) options.now [] (T.stands teller.old) (T.stands teller.new) (T.stopped teller.new) (T.faults teller.old) (T.faults teller.new) result }
+        → EndsRun (form_of form.now) options.now []
+        (T.stands teller.old) (T.stands teller.new) (T.stopped teller.new) (T.faults teller.old) (T.faults teller.new) result }
 {
     let boxes = phase_one_form(alloc, form)?;
     teller.tell(&Event::Phase(1))?;
     match started(alloc, &boxes) {
         Ok(first) => walk_boxes(alloc, form, boxes, first, options, teller, steps),
-        Err(Fault::Named(refused)) => Ok(Answer::Overflow(Place {
-            task: Spot::Start,
-            refused,
-        })),
+        Err(Fault::Named(refused)) => Ok(overflow(Spot::Start, refused)),
         Err(Fault::OutOfMemory) => Err(Fault::OutOfMemory),
     }
 }
@@ -240,29 +274,25 @@ fn run<T: Teller, L>(
     steps: &mut Steps<L>,
 ) -> Result<Answer, Fault<TellFailed>>
     requires options { IsOptions options.now }
-    requires one_row { IsOneRow options.now }
-    ensures { EndsRun (form_of form.now) options.now [] (T.stands teller.old) (T.stands teller.new) (T.stopped teller.new) (T.faults teller.old) (T.faults teller.new) result }
+    ensures { EndsRun (form_of form.now) options.now []
+        (T.stands teller.old) (T.stands teller.new) (T.stopped teller.new) (T.faults teller.old) (T.faults teller.new) result }
 {
     let state = match started(alloc, form) {
         Ok(state) => state,
-        Err(Fault::Named(refused)) => {
-            return Ok(Answer::Overflow(Place {
-                task: Spot::Start,
-                refused,
-            }));
-        }
+        Err(Fault::Named(refused)) => return Ok(overflow(Spot::Start, refused)),
         Err(Fault::OutOfMemory) => return Err(Fault::OutOfMemory),
     };
     if state.dual_feasible(form.bounds.as_slice()) {
         teller.tell(&Event::Phase(2))?;
-        return phase_two(alloc, form, state, 0, options, teller, steps);
+        return phase_two(alloc, form, state, None, 0, options, teller, steps);
     }
     phase_one(alloc, form, options, teller, steps)
 }
 
 /// Solves a form: phase two alone where its start is dual feasible; else phase one in the boxes, and phase two behind the
-/// switch where its last basis is dual feasible on the form's own bounds. One count of pivots and one numbering of majors
-/// go over both phases. The teller is told each event but the header.
+/// switch where its last basis is dual feasible on the form's own bounds. Phase two goes on counting pivots and numbering
+/// majors where phase one stopped, and takes over the factor that the switch has eliminated. The teller is told each event but
+/// the header.
 ///
 /// # Errors
 ///
@@ -275,8 +305,8 @@ pub fn solve<T: Teller, L>(
     steps: &mut Steps<L>,
 ) -> Result<Answer, Fault<TellFailed>>
     requires options { IsOptions options.now }
-    requires one_row { IsOneRow options.now }
-    ensures run { EndsRun (form_of form.now) options.now [] (T.stands teller.old) (T.stands teller.new) (T.stopped teller.new) (T.faults teller.old) (T.faults teller.new) result }
+    ensures run { EndsRun (form_of form.now) options.now []
+        (T.stands teller.old) (T.stands teller.new) (T.stopped teller.new) (T.faults teller.old) (T.faults teller.new) result }
     ensures certificate { IfOk result (λ answer. HasCertificate (form_of form.now) answer) }
 {
     run(alloc, form, options, teller, steps)

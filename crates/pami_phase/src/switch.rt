@@ -1,11 +1,10 @@
 //! The switch from the boxes to the form's own bounds: where the variables stand there, and the values solved afresh.
 
 ghost use Rattle.std.specs.Prelude.{◌≡◌, ◌↔◌, IsTrue, ◌<◌, ◌≤◌, ◌+◌, ◌^◌, ℕ, [], length, map, replicate, slice_index_or, IfOk, All};
-ghost use Rattle.pami_linear.specs.Systems.{IsRegular};
-ghost use Rattle.pami_factoring.specs.Factor.{basis_columns, elimination_script, matrix_of};
 ghost use Rattle.std.specs.List.{range_with_len};
-ghost use Rattle.pami_frac.specs.Answers.{Follows};
-ghost use Rattle.pami_frac.specs.Answers.{FollowsBy};
+ghost use Rattle.pami_linear.specs.Systems.{IsRegular};
+ghost use Rattle.pami_frac.specs.Answers.{Follows, FollowsBy};
+ghost use Rattle.pami_factoring.specs.Factor.{basis_columns, elimination_script, matrix_of};
 ghost use Rattle.pami_theory.specs.Fresh.{Fresh, IsFresh};
 ghost use Rattle.pami_theory.specs.Start.{is_same as the_is_same};
 ghost use Rattle.pami_theory.specs.Basis.{Basis, IsBasis, IsRegularBasis};
@@ -13,7 +12,8 @@ ghost use Rattle.pami_theory.specs.Boxes.{boxes_of, boxed_by as the_boxed_by, sw
 ghost use Rattle.pami_method.specs.Scripts.{is_nonbasic as the_is_nonbasic};
 ghost use Rattle.pami_method.specs.Phases.{switch_refused};
 ghost use Rattle.pami_state.specs.State.{basis_of, IsSolvedAfresh};
-ghost use Rattle.pami_major.specs.Ready.{form_of};
+ghost use Rattle.pami_form.specs.FormOf.{form_of};
+ghost use Rattle.pami_batch.specs.Factors.{IsFactorOf};
 ghost use Rattle.pami_phase.specs.Switches.{switched_at, side_script, switch_script, FollowsSteps};
 
 use pami_factor::Factor;
@@ -21,7 +21,7 @@ use pami_form::Form;
 use pami_frac::{Bounds, Fault, Frac, FracList, OutOfMemory, Refused};
 use pami_lu::{Lu, LuFault, Steps, eliminate};
 use pami_state::State;
-use pami_vec::{PlaceList, SpVec, Stand, StandList, WeightList};
+use pami_vec::{SpVec, Stand, StandList, WeightList};
 use std::alloc::Global;
 
 /// Are both the same number?
@@ -110,14 +110,9 @@ pub(crate) fn moved_to_bounds(
         state.stands.as_slice(),
         state.reduced.as_slice(),
     )?;
-    Ok(State {
-        head: PlaceList::from_vec(Vec::from_slice(alloc, state.head.as_slice())?),
-        stands: StandList::from_vec(stands),
-        values: FracList::from_vec(Vec::from_slice(alloc, state.values.as_slice())?),
-        reduced: FracList::from_vec(Vec::from_slice(alloc, state.reduced.as_slice())?),
-        weights: WeightList::from_vec(Vec::from_slice(alloc, state.weights.as_slice())?),
-        pivots: state.pivots,
-    })
+    let mut moved = state.copy(alloc)?;
+    moved.stands = StandList::from_vec(stands);
+    Ok(moved)
 }
 
 /// Is the last basis of phase one dual feasible on the form's own bounds? `moved` is its state with the variables on them; its
@@ -156,17 +151,11 @@ fn nonbasic_side(alloc: Global, form: &Form, state: &State) -> Result<SpVec, Fau
 {
     let bounds = form.bounds.as_slice();
     let stands = state.stands.as_slice();
-    let mut rows = match SpVec::from_entries(alloc, form.rows, &[]) {
-        Ok(rows) => rows,
-        Err(_) => return Err(Fault::OutOfMemory),
-    };
+    let mut rows = SpVec::from_entries(alloc, form.rows, &[])?;
     for (v, column) in form.columns.as_slice().iter().enumerate() {
         if is_nonbasic(stands[v]) {
             let value = state.value_of(bounds, v as u32);
-            rows = match rows.take_times(alloc, value, column) {
-                Ok(rows) => rows,
-                Err(fault) => return Err(fault),
-            };
+            rows = rows.take_times(alloc, value, column)?;
         }
     }
     Ok(rows)
@@ -198,7 +187,15 @@ fn eliminated<L>(
     }
 }
 
-/// The values by place at the basis of a state: a new elimination, the right side, and the forward solve.
+/// The values by place at the basis of a state, and the factor of its head.
+#[derive(Drop)]
+struct SolvedValues {
+    values: SpVec,
+    factor: Factor,
+}
+
+/// The values by place at the basis of a state: a new elimination, the right side, and the forward solve; and the factor that
+/// the elimination gave.
 ///
 /// # Errors
 ///
@@ -208,22 +205,27 @@ fn solved_values<L>(
     form: &Form,
     state: &State,
     steps: &mut Steps<L>,
-) -> Result<SpVec, Fault<Refused>>
+) -> Result<SolvedValues, Fault<Refused>>
     requires basis { IsBasis (form_of form.now) (basis_of state.now) }
     requires regular { IsRegularBasis (form_of form.now) (basis_of state.now) }
     requires values { length state.now.values ≡ length state.now.head }
-    ensures script { (t : Fresh) → IsFresh (form_of form.now) (basis_of state.now) t → FollowsBy (λ v. v) (switch_script (form_of form.now) (basis_of state.now) t) result }
+    ensures script { (t : Fresh) → IsFresh (form_of form.now) (basis_of state.now) t
+        → FollowsBy (λ s. s.values) (switch_script (form_of form.now) (basis_of state.now) t) result }
+    ensures factor { IfOk result (λ s. IsFactorOf (form_of form.now) (record { head = state.now.head; pivots = [] }) (basis_of state.now) s.factor) }
     ensures counted { steps.new.count ≤ steps.old.count + 2 }
 {
-    let lu = match eliminated(alloc, form.columns.as_slice(), state.head.as_slice(), steps) {
-        Ok(lu) => lu,
-        Err(fault) => return Err(fault),
-    };
-    let rows = match nonbasic_side(alloc, form, state) {
-        Ok(rows) => rows,
-        Err(fault) => return Err(fault),
-    };
-    Factor::of(lu).solve_forward(alloc, &rows, steps)
+    let lu = eliminated(alloc, form.columns.as_slice(), state.head.as_slice(), steps)?;
+    let rows = nonbasic_side(alloc, form, state)?;
+    let factor = Factor::of(lu);
+    let values = factor.solve_forward(alloc, &rows, steps)?;
+    Ok(SolvedValues { values, factor })
+}
+
+/// A state behind the switch, with the factor that the elimination of its head gave.
+#[derive(Debug, Drop)]
+pub(crate) struct SwitchedState {
+    pub(crate) state: State,
+    pub(crate) factor: Factor,
 }
 
 /// A state whose variables stand on the form's own bounds, with its values solved afresh and new weights; the count of pivots
@@ -238,36 +240,25 @@ pub(crate) fn switched<L>(
     form: &Form,
     state: State,
     steps: &mut Steps<L>,
-) -> Result<State, Fault<Refused>>
+) -> Result<SwitchedState, Fault<Refused>>
     requires basis { IsBasis (form_of form.now) (basis_of state) }
     requires regular { IsRegularBasis (form_of form.now) (basis_of state) }
     requires values { length state.values ≡ length state.head }
     requires reduced { (t : Fresh) → IsFresh (form_of form.now) (basis_of state) t → state.reduced ≡ t.reduced }
-    ensures basis { IfOk result (λ st. basis_of st ≡ basis_of state) }
-    ensures solved { IfOk result (λ st. IsSolvedAfresh (form_of form.now) st) }
-    ensures weights { IfOk result (λ st. st.weights ≡ replicate (form_of form.now).rows 1) }
-    ensures pivots { IfOk result (λ st. st.pivots ≡ state.pivots) }
+    ensures basis { IfOk result (λ s. basis_of s.state ≡ basis_of state) }
+    ensures solved { IfOk result (λ s. IsSolvedAfresh (form_of form.now) s.state) }
+    ensures weights { IfOk result (λ s. s.state.weights ≡ replicate (form_of form.now).rows 1) }
+    ensures pivots { IfOk result (λ s. s.state.pivots ≡ state.pivots) }
+    ensures factor { IfOk result (λ s. IsFactorOf (form_of form.now) (record { head = state.head; pivots = [] }) (basis_of state) s.factor) }
     ensures follows { (t : Fresh) → IsFresh (form_of form.now) (basis_of state) t → Follows (switch_refused (form_of form.now) (basis_of state) t) result }
     ensures counted { steps.new.count ≤ steps.old.count + 2 }
 {
-    let values = match solved_values(alloc, form, &state, steps) {
-        Ok(values) => values,
-        Err(fault) => return Err(fault),
-    };
-    let State {
-        head,
-        stands,
-        values: _,
-        reduced,
-        weights: _,
-        pivots,
-    } = state;
-    Ok(State {
-        head,
-        stands,
-        values: FracList::from_vec(values.to_dense(alloc)?),
-        reduced,
-        weights: WeightList::from_vec(vec![in alloc; 1; form.rows as usize]?),
-        pivots,
+    let solved = solved_values(alloc, form, &state, steps)?;
+    let mut next = state;
+    next.values = FracList::from_vec(solved.values.to_dense(alloc)?);
+    next.weights = WeightList::from_vec(vec![in alloc; 1; form.rows as usize]?);
+    Ok(SwitchedState {
+        state: next,
+        factor: solved.factor,
     })
 }

@@ -3,7 +3,6 @@
 ghost use Rattle.std.specs.Prelude.{◌≡◌, ◌≤◌, IfOk};
 ghost use Rattle.pami_method.specs.Walk.{greatest_limit, IsOptions};
 ghost use Rattle.pami_major.specs.Ready.{IsReady};
-ghost use Rattle.pami_major.specs.Walks.{IsOneRow};
 
 use crate::stages::started;
 use crate::{Answer, solve};
@@ -97,16 +96,15 @@ fn form_with(
     Ok(form_of(alloc, &model).ok().ok_or("a form")?)
 }
 
-/// One row a major, and a new elimination in each.
+/// At most four rows a major, and a factor for at most 16 pivots.
 fn options_with(limit: u32) -> Options
     requires { limit ≤ greatest_limit }
     ensures options { IsOptions result }
-    ensures one_row { IsOneRow result }
     ensures limit { result.limit ≡ limit }
 {
     Options {
-        batch: 1,
-        refactor: 0,
+        batch: 4,
+        refactor: 16,
         limit,
     }
 }
@@ -215,9 +213,25 @@ fn both_phases_end_optimal(rt: HostRuntime) -> Result<(), Fail> {
     let form = both_phases(&rt, rt.alloc())?;
     let (answer, _) = answer_of(rt.alloc(), &form, 10)?;
     match answer {
-        Answer::Optimal { state } => {
+        Answer::Optimal { state, factor } => {
             has_value(&rt, &state, 0, Frac::whole(2));
             has_value(&rt, &state, 1, Frac::whole(1));
+            assert!(rt; factor.is_some());
+            Ok(())
+        }
+        _ => Err(Fail::from("an optimal answer")),
+    }
+}
+
+/// Where nothing is to be done there is no factor.
+#[test]
+fn an_optimal_start_has_no_factor(rt: HostRuntime) -> Result<(), Fail> {
+    let inside = one_by_one(&rt, rt.alloc(), at_least(0), 1, at_most(5))?;
+    let (answer, events) = answer_of(rt.alloc(), &inside, 10)?;
+    assert_eq!(rt; events, 1);
+    match answer {
+        Answer::Optimal { state: _, factor } => {
+            assert!(rt; factor.is_none());
             Ok(())
         }
         _ => Err(Fail::from("an optimal answer")),
@@ -319,7 +333,17 @@ fn major_of(alloc: Global, form: &Form, limit: u32) -> Result<(MajorEnd, State, 
     let before = state.copy(alloc).ok().ok_or("a copy")?;
     let mut steps = Steps::<()>::new();
     let options = options_with(limit);
-    match major(alloc, form, &mut state, Mode::Full, 1, &options, &mut steps) {
+    let mut factor = None;
+    match major(
+        alloc,
+        form,
+        &mut state,
+        &mut factor,
+        Mode::Full,
+        1,
+        &options,
+        &mut steps,
+    ) {
         Ok(end) => Ok((end, before, state)),
         Err(_) => Err(Fail::from("a major")),
     }

@@ -10,7 +10,8 @@ use Rattle.pami_theory.specs.Start.{starting_basis}
 use Rattle.pami_method.specs.Phases.{start_refused}
 use Rattle.pami_log.specs.declared.event.Event.TheVariants as told
 use Rattle.pami_state.specs.declared.state.State.{State}
-use Rattle.pami_major.specs.Ready.{form_of}
+use Rattle.pami_form.specs.FormOf.{form_of}
+use Rattle.pami_phase.specs.declared.answer.Answer.{Answer}
 use Rattle.pami_phase.specs.declared.answer.Answer.TheVariants as answers
 use Rattle.pami_phase.specs.Runs.{EndsRun}
 use Rattle.pami_phase.proofs.Further.{told_further, untold_exit, short, short_exit}
@@ -45,9 +46,11 @@ pub returns-in-Err-Named : goal.returns-in-Err-Named
 returns-in-Err-Named g c = λ starts.
     let f = form_of c.args.form.now in
     let o = c.args.options.now in
-    let So : Refused → Type 0 = λ x. EndsRun f o [] (g.T.Teller.stands c.args.teller.now) (g.T.Teller.stands c.tell.new.self) (g.T.Teller.stopped c.tell.new.self)
-    (g.T.Teller.faults c.args.teller.now) (g.T.Teller.faults c.tell.new.self) (Ok (answers.Overflow (at_start x))) in
-    subst So (sym c.in-Err-Named.refused-is)
+    let End : Answer → Type 0 = λ a. EndsRun f o [] (g.T.Teller.stands c.args.teller.now) (g.T.Teller.stands c.tell.new.self) (g.T.Teller.stopped c.tell.new.self)
+    (g.T.Teller.faults c.args.teller.now) (g.T.Teller.faults c.tell.new.self) (Ok a) in
+    let So : Refused → Type 0 = λ x. End (answers.Overflow (at_start x)) in
+    subst End (sym c.overflow.ensures)
+    (subst So (sym c.in-Err-Named.refused-is)
     (told_further f o [] (told.Phase 1 ∷ [])
     (g.T.Teller.stands c.args.teller.now) (g.T.Teller.stands c.tell.new.self) (g.T.Teller.stands c.tell.new.self) (g.T.Teller.stopped c.tell.new.self)
     (g.T.Teller.faults c.args.teller.now) (g.T.Teller.faults c.tell.new.self) (g.T.Teller.faults c.tell.new.self) (Ok (answers.Overflow (at_start c.in-Err-Named.refused)))
@@ -55,7 +58,7 @@ returns-in-Err-Named g c = λ starts.
     (boxes_unfit f o (g.T.Teller.stands c.tell.new.self) (g.T.Teller.stopped c.tell.new.self) (g.T.Teller.faults c.tell.new.self) c.in-Err-Named.refused starts
     (subst (λ (h : Form). (t : Fresh) → IsFresh h (starting_basis h) t → start_refused h t ≡ Some c.in-Err-Named.refused) c.in_ok-boxes.ensures
     (λ t fresh.
-    subst (λ (x : Fault Refused). Follows {A = State} (start_refused (form_of c.in_ok-boxes.boxes) t) (Err x)) c.in-Err-Named.field-0-is (c.in-Err-Named.ensures.follows t fresh)))))
+    subst (λ (x : Fault Refused). Follows {A = State} (start_refused (form_of c.in_ok-boxes.boxes) t) (Err x)) c.in-Err-Named.field-0-is (c.in-Err-Named.ensures.follows t fresh))))))
 
 pub returns : goal.returns
 returns g c = λ starts.

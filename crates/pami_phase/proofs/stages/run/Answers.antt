@@ -1,4 +1,4 @@
-use Rattle.std.proofs.Common.{◌∷◌, [], Ok, Err, refl, sym, ◌∙◌, subst, true≢false}
+use Rattle.std.proofs.Common.{◌∷◌, [], None, Ok, Err, refl, sym, ◌∙◌, subst, true≢false}
 use Rattle.std.proofs.lemmas.Result.{err_from_is_err_and}
 use Rattle.pami_frac.specs.Answers.{Follows}
 use Rattle.pami_frac.specs.declared.arithmetic.Refused.{Refused}
@@ -6,7 +6,8 @@ use Rattle.pami_frac.specs.declared.fault.Fault.{Fault}
 use Rattle.pami_method.specs.Phases.{start_refused}
 use Rattle.pami_log.specs.declared.event.Event.TheVariants as told
 use Rattle.pami_state.specs.declared.state.State.{State}
-use Rattle.pami_major.specs.Ready.{form_of}
+use Rattle.pami_form.specs.FormOf.{form_of}
+use Rattle.pami_phase.specs.declared.answer.Answer.{Answer}
 use Rattle.pami_phase.specs.declared.answer.Answer.TheVariants as answers
 use Rattle.pami_phase.specs.Runs.{EndsRun, LeadsOn}
 use Rattle.pami_phase.proofs.Starting.{start_ready, start_state, starts_of, start_stands, start_reduced, start_feasible}
@@ -18,12 +19,14 @@ use Rattle.pami_phase.proofs.stages.run.Goals as goal
 pub returns-in-Err-Named : goal.returns-in-Err-Named
 returns-in-Err-Named g c =
     let f = form_of c.args.form.now in
-    let So : Refused → Type 0 = λ x. EndsRun f c.args.options.now [] (g.T.Teller.stands c.args.teller.now) (g.T.Teller.stands c.args.teller.now) (g.T.Teller.stopped c.args.teller.now)
-    (g.T.Teller.faults c.args.teller.now) (g.T.Teller.faults c.args.teller.now) (Ok (answers.Overflow (at_start x))) in
-    subst So (sym c.in-Err-Named.refused-is)
+    let End : Answer → Type 0 = λ a. EndsRun f c.args.options.now [] (g.T.Teller.stands c.args.teller.now) (g.T.Teller.stands c.args.teller.now) (g.T.Teller.stopped c.args.teller.now)
+    (g.T.Teller.faults c.args.teller.now) (g.T.Teller.faults c.args.teller.now) (Ok a) in
+    let So : Refused → Type 0 = λ x. End (answers.Overflow (at_start x)) in
+    subst End (sym c.overflow.ensures)
+    (subst So (sym c.in-Err-Named.refused-is)
     (start_unfit f c.args.options.now (g.T.Teller.stands c.args.teller.now) (g.T.Teller.stopped c.args.teller.now) (g.T.Teller.faults c.args.teller.now) c.in-Err-Named.refused
     (λ s fresh.
-    subst (λ (x : Fault Refused). Follows {A = State} (start_refused f s) (Err x)) c.in-Err-Named.field-0-is (c.in-Err-Named.ensures.follows s fresh)))
+    subst (λ (x : Fault Refused). Follows {A = State} (start_refused f s) (Err x)) c.in-Err-Named.field-0-is (c.in-Err-Named.ensures.follows s fresh))))
 
 pub returns-in-Err-OutOfMemory : goal.returns-in-Err-OutOfMemory
 returns-in-Err-OutOfMemory g c =
@@ -47,6 +50,9 @@ returns-in_err-tell g c =
     (start_begins f o c.requires.options.some_row (starts_of f c.in-Ok.state c.in-Ok.ensures.starts) ((start_feasible c.args.form.now c.in-Ok.state c.as_slice.result.now c.dual_feasible.result c.as_slice.ensures c.in-Ok.ensures.starts c.dual_feasible.ensures.feasible).0 c.if-dual_feasible.true))
     c.in_err-tell.ensures
 
+pub phase_two-requires-clause-factor : goal.phase_two-requires-clause-factor
+phase_two-requires-clause-factor g c = (None, tt)
+
 pub phase_two-requires-clause-ready : goal.phase_two-requires-clause-ready
 phase_two-requires-clause-ready g c =
     start_ready c.args.form.now c.args.options.now.limit (form_of c.args.form.now) c.in-Ok.state refl c.in-Ok.ensures.starts ((start_feasible c.args.form.now c.in-Ok.state c.as_slice.result.now c.dual_feasible.result c.as_slice.ensures c.in-Ok.ensures.starts c.dual_feasible.ensures.feasible).0 c.if-dual_feasible.true)
@@ -59,7 +65,7 @@ returns-then-dual_feasible g c =
     (g.T.Teller.stands c.args.teller.now) (g.T.Teller.stands c.tell.new.self) (g.T.Teller.stands c.phase_two.new.teller) (g.T.Teller.stopped c.phase_two.new.teller)
     (g.T.Teller.faults c.args.teller.now) (g.T.Teller.faults c.tell.new.self) (g.T.Teller.faults c.phase_two.new.teller) c.phase_two.result
     c.in_ok-tell.ensures.0 c.in_ok-tell.ensures.1
-    (c.phase_two.ensures (told.Phase 2 ∷ [])
+    (c.phase_two.ensures (told.Phase 2 ∷ []) None tt
     (subst (LeadsOn f o (told.Phase 2 ∷ []) 0) (sym (start_state f c.in-Ok.state c.in-Ok.ensures.starts))
     (start_leads f o (starts_of f c.in-Ok.state c.in-Ok.ensures.starts) ((start_feasible c.args.form.now c.in-Ok.state c.as_slice.result.now c.dual_feasible.result c.as_slice.ensures c.in-Ok.ensures.starts c.dual_feasible.ensures.feasible).0 c.if-dual_feasible.true))))
 

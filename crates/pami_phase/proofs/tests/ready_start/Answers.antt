@@ -1,5 +1,5 @@
 use Rattle.std.proofs.Common.{refl}
-use Rattle.pami_major.specs.Ready.{form_of}
+use Rattle.pami_form.specs.FormOf.{form_of}
 use Rattle.pami_phase.proofs.Starting.{start_ready, start_stands, start_feasible}
 use Rattle.pami_phase.proofs.tests.ready_start.Goals as goal
 

@@ -1,11 +1,11 @@
 use Rattle.std.proofs.Common.{◌∙◌, sym, true≢false}
 use Rattle.std.proofs.lemmas.Result.{err_from_is_err_and}
 use Rattle.pami_state.specs.State.{basis_of}
-use Rattle.pami_major.specs.Ready.{form_of}
+use Rattle.pami_form.specs.FormOf.{form_of}
 use Rattle.pami_phase.specs.Runs.{boxes_events}
 use Rattle.pami_phase.proofs.Further.{short_exit}
 use Rattle.pami_phase.proofs.Switching.{boxes_basis, boxes_solved, moved_by, moved_stands, moved_reduced, switchable, switched_from, never_dual, ended_begins}
-use Rattle.pami_phase.proofs.stages.behind.Goals as goal
+use Rattle.pami_phase.proofs.stages.answer_behind_boxes.Goals as goal
 
 pub returns-in_err-moved : goal.returns-in_err-moved
 returns-in_err-moved g c = λ majors st ended.
@@ -21,8 +21,8 @@ can_be_dual_feasible-requires-clause-stands g c = moved_stands c.args.form.now c
 pub can_be_dual_feasible-requires-clause-reduced : goal.can_be_dual_feasible-requires-clause-reduced
 can_be_dual_feasible-requires-clause-reduced g c = moved_reduced c.args.form.now c.args.end.form c.args.options.now.limit c.args.end.state c.requires.boxes c.requires.ready c.in_ok-moved.moved c.in_ok-moved.ensures.basis c.in_ok-moved.ensures.values c.in_ok-moved.ensures.reduced c.in_ok-moved.ensures.pivots
 
-pub switch_on-requires-clause-ready : goal.switch_on-requires-clause-ready
-switch_on-requires-clause-ready g c =
+pub answer_behind_switch-requires-clause-ready : goal.answer_behind_switch-requires-clause-ready
+answer_behind_switch-requires-clause-ready g c =
     switchable c.args.form.now c.args.end.form c.args.options.now.limit c.args.end.state c.requires.boxes c.requires.ready c.in_ok-moved.moved c.in_ok-moved.ensures.basis c.in_ok-moved.ensures.values c.in_ok-moved.ensures.reduced c.in_ok-moved.ensures.pivots
     ((c.can_be_dual_feasible.ensures (basis_of c.args.end.state) (boxes_solved c.args.form.now c.args.end.form c.args.options.now.limit c.args.end.state c.requires.boxes c.requires.ready).fresh (boxes_basis c.args.form.now c.args.end.form c.args.options.now.limit c.args.end.state c.requires.boxes c.requires.ready) (boxes_solved c.args.form.now c.args.end.form c.args.options.now.limit c.args.end.state c.requires.boxes c.requires.ready).solved
     (moved_by c.args.form.now c.args.end.form c.args.options.now.limit c.args.end.state c.requires.boxes c.requires.ready c.in_ok-moved.moved c.in_ok-moved.ensures.basis c.in_ok-moved.ensures.values c.in_ok-moved.ensures.reduced c.in_ok-moved.ensures.pivots)
@@ -30,7 +30,7 @@ switch_on-requires-clause-ready g c =
 
 pub returns-then-can_be_dual_feasible : goal.returns-then-can_be_dual_feasible
 returns-then-can_be_dual_feasible g c = λ majors st ended.
-    c.switch_on.ensures majors st
+    c.answer_behind_switch.ensures majors st
     (switched_from c.args.form.now c.args.end.form c.args.options.now.limit c.args.end.state c.requires.boxes c.requires.ready c.in_ok-moved.moved c.in_ok-moved.ensures.basis c.in_ok-moved.ensures.values c.in_ok-moved.ensures.reduced c.in_ok-moved.ensures.pivots c.args.options.now majors st c.args.end.tried ended
     ((c.can_be_dual_feasible.ensures (basis_of c.args.end.state) (boxes_solved c.args.form.now c.args.end.form c.args.options.now.limit c.args.end.state c.requires.boxes c.requires.ready).fresh (boxes_basis c.args.form.now c.args.end.form c.args.options.now.limit c.args.end.state c.requires.boxes c.requires.ready) (boxes_solved c.args.form.now c.args.end.form c.args.options.now.limit c.args.end.state c.requires.boxes c.requires.ready).solved
     (moved_by c.args.form.now c.args.end.form c.args.options.now.limit c.args.end.state c.requires.boxes c.requires.ready c.in_ok-moved.moved c.in_ok-moved.ensures.basis c.in_ok-moved.ensures.values c.in_ok-moved.ensures.reduced c.in_ok-moved.ensures.pivots)
