@@ -1,0 +1,12 @@
+pub mod Exact
+pub mod Loops
+pub mod Places
+pub mod Columns
+pub mod Laid
+pub mod Bridge
+pub mod Prices
+pub mod RowSpans
+pub mod CostSpans
+pub mod Whole
+pub mod Lent
+pub mod BoundLines

@@ -1,0 +1,15 @@
+//! Lists that travel together.
+
+use pami_frac::{Bounds, Frac};
+use pami_vec::{SpVec, Stand};
+
+/// The lists that the spans of costs are read from: the head goes by place, each other list by variable.
+#[derive(Clone, Copy)]
+pub(crate) struct CostLists<'a> {
+    pub(crate) columns: &'a [SpVec],
+    pub(crate) bounds: &'a [Bounds],
+    pub(crate) costs: &'a [Frac],
+    pub(crate) head: &'a [u32],
+    pub(crate) stands: &'a [Stand],
+    pub(crate) reduced: &'a [Frac],
+}
