@@ -96,7 +96,7 @@ same_shelf files others asked before earlier after e f =
 module _ (k : Call) (result : Status) (file cert : List ℕ) (lp : Bool) (asks : AskFor k.words (Check file cert lp)) where
   due : (bytes : List ℕ) → HasFile k.shelf.files file bytes → (s : Status) (w : List ℕ) → IsCheckDue (format_by lp) bytes cert k.shelf s w → IsDue k s w
   due bytes h s w (inl fault) = inr (inl (record { command = Check file cert lp; asks = asks; fault = fault }))
-  due bytes h s w (inr a) = inr (inr (record { command = Check file cert lp; bytes = bytes; asks = asks; under = h; answer = a }))
+  due bytes h s w (inr a) = inr (inr (record { command = Check file cert lp; bytes = bytes; asks = asks; under = h; answer = a; sound = tt }))
 
   -- behind FILE the shelf was as before
   pub ends_check : (bytes : List ℕ) (shelf : ShelfCall) → shelf ≡ k.shelf → HasFile k.shelf.files file bytes

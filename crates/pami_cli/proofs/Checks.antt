@@ -1,5 +1,5 @@
 -- What `check` answers: one status and one text.
-use Rattle.std.proofs.Common.{◌≡◌, ℕ, inl, inr, List, Option, None, Some, refl, sym, ap, ◌∙◌, subst}
+use Rattle.std.proofs.Common.{◌≡◌, ℕ, ◌⊎◌, inl, inr, List, Option, None, Some, refl, sym, ap, ◌∙◌, subst}
 use Rattle.pami_edge.specs.Outside.{Files, HasFile, HasLongFile}
 use Rattle.pami_model.specs.Contents.{Contents}
 use Rattle.pami_model.specs.Rules.{byte_limit}
@@ -10,7 +10,8 @@ use Rattle.pami_cert.specs.declared.cert.Cert.{Cert}
 use Rattle.pami_cert.specs.declared.cert.CertFault.{CertFault}
 use Rattle.pami_cert.specs.declared.cert.CertKind.TheVariants as kinds
 use Rattle.pami_cert.specs.FirstFault.{FirstFault}
-use Rattle.pami_cert.proofs.Whole.{one_certificate, one_first_fault, not_certificate_and_fault}
+use Rattle.pami_cert.specs.CertText.{IsCertText}
+use Rattle.pami_cert.proofs.Whole.{certificate_or_fault, one_certificate, one_first_fault, not_certificate_and_fault}
 use Rattle.pami_check.specs.declared.verdict.Verdict.{Verdict}
 use Rattle.pami_check.specs.declared.verdict.Verdict.TheVariants as verdicts
 use Rattle.pami_check.specs.Verdict.{verdict}
@@ -18,7 +19,7 @@ use Rattle.pami_check.specs.declared.verdict.Condition.{Condition}
 use Rattle.pami_check.proofs.Sound.{valid_holds, invalid_fails, holds_shows}
 use Rattle.pami_cli.specs.declared.status.Status.{Status}
 use Rattle.pami_cli.specs.declared.status.Status.TheVariants as statuses
-use Rattle.pami_cli.specs.Text.{verdict_text, malformed_text}
+use Rattle.pami_cli.specs.Text.{wide_text, verdict_text, malformed_text}
 use Rattle.pami_cli.specs.Reading.{Format, IsTextOf}
 use Rattle.pami_cli.specs.Judged.{verdict_status, Judges, IsShown, IsDisproved}
 use Rattle.pami_cli.specs.Run.{Refuses, IsAccepted, IsCertAnswer, Checks, ChecksText}
@@ -50,6 +51,22 @@ one_judgement c bytes s t w v (inr a) (inr b) = (
   a.status_is ∙ sym b.status_is,
   a.written_is ∙ ap malformed_text (one_first_fault c bytes a.fault b.fault a.first b.first) ∙ sym b.written_is,
 )
+
+-- and there is one
+some_judgement : (c : Contents) (bytes : List ℕ) → (s : Status) × (w : List ℕ) × Judges c bytes s w
+some_judgement c bytes = by (certificate_or_fault c bytes)
+  where
+    by : ((cert : Cert) × IsCertText c bytes cert) ⊎ ((fault : CertFault) × FirstFault c bytes fault) → (s : Status) × (w : List ℕ) × Judges c bytes s w
+    by (inl (cert, is)) = (verdict_status (verdict c cert), verdict_text c (verdict c cert), inl (record { cert = cert; text_of = is; status_is = refl; written_is = refl }))
+    by (inr (fault, first)) = (statuses.Malformed, malformed_text fault, inr (record { fault = fault; first = first; status_is = refl; written_is = refl }))
+
+-- a model that is read is judged against, or has a width that doesn't fit
+pub fitting_or_wide : (format : Format) (bytes text : List ℕ) (c : Contents) → IsTextOf format bytes c → (x : Option WideBox) → first_wide (model_form c).bounds ≡ x
+    → (s : Status) × (w : List ℕ) × ChecksText format bytes text s w
+fitting_or_wide format bytes text c is None fits =
+    let j = some_judgement c text in (j.0, j.1, inr (record { model = c; accepted = record { text_of = is; widths = fits }; text = text; stands = refl; judged = j.2 }))
+fitting_or_wide format bytes text c is (Some box) first =
+    (statuses.File, wide_text c box.variable, inl (refl, inr (c, is, record { box = box; first = first; status_is = refl; written_is = refl })))
 
 -- and never status 3
 no_verdict_refuses : (v : Verdict) → statuses.File ≡ verdict_status v → ⊥

@@ -1,5 +1,5 @@
 -- The answer of a form, and the lines that are printed of it.
-use Rattle.std.proofs.Common.{◌≡◌, ℕ, ◌+◌, List, ◌++◌, length, sym, ap, ◌∙◌, subst}
+use Rattle.std.proofs.Common.{◌≡◌, ℕ, ◌+◌, List, ◌++◌, length, sym, ap, ◌∙◌, subst, Option}
 use Rattle.std.specs.List.{All}
 use Rattle.pami_algebra.specs.Fraction.{Fraction}
 use Rattle.pami_frac.specs.declared.list.Bounds.{Bounds}
@@ -17,7 +17,7 @@ use Rattle.pami_state.proofs.Formed.{has_bounds, basis_by_bounds}
 use Rattle.pami_state.proofs.Known.{values_by_head}
 use Rattle.pami_lines.specs.Line.{text}
 use Rattle.pami_text.specs.Record.{answer_lines}
-use Rattle.pami_major.specs.Ready.{form_of}
+use Rattle.pami_form.specs.FormOf.{form_of}
 use Rattle.pami_phase.specs.declared.answer.Answer.{Answer}
 use Rattle.pami_phase.specs.declared.answer.Answer.TheVariants as answers
 use Rattle.pami_phase.specs.Runs.{IsLast, IsAnswerOf}
@@ -27,6 +27,7 @@ use Rattle.pami_model_form.specs.Named.{named_of}
 use Rattle.pami_cli.specs.Text.{optimal_text, dual_infeasible_text}
 use Rattle.pami_method.specs.declared.words.Place.{Place}
 use Rattle.pami_cert.specs.Sized.{IsSized}
+use Rattle.pami_factor.specs.Value.{Product}
 use Rattle.pami_cert.specs.CertText.{Fit, Fits}
 use Rattle.pami_cli.specs.CertOf.{best_cert, direction_cert}
 use Rattle.pami_cli.specs.Answer.{IsCertified}
@@ -42,9 +43,9 @@ pub record IsRead (f : Form) (st : State) : Type 0 where
 last_read : (f : Form) (state : State) (st : method.State) (s : Fresh) → IsLast f state st s → IsRead f state
 last_read f state st s l = record { basis = l.basis; solved = l.solved }
 
-pub optimal_read : (f : Form) (state : State) → IsReadable f (answers.Optimal state) → IsRead f state
-optimal_read f state (phases.Optimal st s, l) = last_read f state st s l
-optimal_read f state (a, is) = absurd is
+pub optimal_read : (f : Form) (state : State) (factor : Option Product) → IsReadable f (answers.Optimal state factor) → IsRead f state
+optimal_read f state factor (phases.Optimal st s, l) = last_read f state st s l.0
+optimal_read f state factor (a, is) = absurd is
 
 pub boxes_read : (f : Form) (state : State) (boxes : ProgramForm) → IsReadable f (answers.DualInfeasible state boxes) → IsRead (boxes_of f) state × (form_of boxes ≡ boxes_of f)
 boxes_read f state boxes (phases.DualInfeasible st s, l) = (last_read (boxes_of f) state st s l.0, l.1)
@@ -67,13 +68,13 @@ module _ (c : Contents) (o r : List ℕ) where
   abbrev pub IsTextOfAnswer : Answer → Type 0
   IsTextOfAnswer answer = (a : phases.Answer) → IsAnswerOf (model_form c) answer a → r ≡ o ++ text (answer_lines (named_of c) a)
 
-  pub optimal_lines_are : (state : State) (values : List Fraction) → ((s : IsSolvedAfresh (model_form c) state) → values ≡ s.fresh.values) → r ≡ o ++ optimal_text c values state.reduced (basis_of state) → IsTextOfAnswer (answers.Optimal state)
-  optimal_lines_are state values v e (phases.Optimal st s) l =
-      e ∙ ap (λ x. o ++ optimal_text c x state.reduced (basis_of state)) (v l.solved)
-      ∙ ap (λ x. o ++ optimal_text c l.solved.fresh.values x (basis_of state)) l.solved.reduced
-      ∙ ap (λ (x : Fresh). o ++ optimal_text c x.values x.reduced (basis_of state)) l.fresh
-      ∙ ap (λ b. o ++ optimal_text c s.values s.reduced b) (sym l.same)
-  optimal_lines_are state values v e a l = absurd l
+  pub optimal_lines_are : (state : State) (factor : Option Product) (values : List Fraction) → ((s : IsSolvedAfresh (model_form c) state) → values ≡ s.fresh.values) → r ≡ o ++ optimal_text c values state.reduced (basis_of state) → IsTextOfAnswer (answers.Optimal state factor)
+  optimal_lines_are state factor values v e (phases.Optimal st s) l =
+      e ∙ ap (λ x. o ++ optimal_text c x state.reduced (basis_of state)) (v l.0.solved)
+      ∙ ap (λ x. o ++ optimal_text c l.0.solved.fresh.values x (basis_of state)) l.0.solved.reduced
+      ∙ ap (λ (x : Fresh). o ++ optimal_text c x.values x.reduced (basis_of state)) l.0.fresh
+      ∙ ap (λ b. o ++ optimal_text c s.values s.reduced b) (sym l.0.same)
+  optimal_lines_are state factor values v e a l = absurd l
 
   pub dual_infeasible_lines_are : (state : State) (boxes : ProgramForm) (z : List Fraction) → ((s : IsSolvedAfresh (boxes_of (model_form c)) state) → z ≡ s.fresh.values) → r ≡ o ++ dual_infeasible_text c z
       → IsTextOfAnswer (answers.DualInfeasible state boxes)
@@ -84,15 +85,15 @@ module _ (c : Contents) (o r : List ℕ) where
 -- ---- certificates
 -- the certificate of an answer with a state is that of the method's answer
 module _ (c : Contents) where
-  pub optimal_certified : (state : State) (values : List Fraction) → ((s : IsSolvedAfresh (model_form c) state) → values ≡ s.fresh.values)
+  pub optimal_certified : (state : State) (factor : Option Product) (values : List Fraction) → ((s : IsSolvedAfresh (model_form c) state) → values ≡ s.fresh.values)
       → length c.columns + length c.rows ≡ length values → length state.reduced ≡ length values → Fits (best_cert c values state.reduced)
-      → (a : phases.Answer) → IsAnswerOf (model_form c) (answers.Optimal state) a → IsCertified c a
-  optimal_certified state values v n m fits (phases.Optimal st s) l =
-      let x : values ≡ s.values = v l.solved ∙ ap (λ (f : Fresh). f.values) l.fresh in
-      let d : state.reduced ≡ s.reduced = l.solved.reduced ∙ ap (λ (f : Fresh). f.reduced) l.fresh in
+      → (a : phases.Answer) → IsAnswerOf (model_form c) (answers.Optimal state factor) a → IsCertified c a
+  optimal_certified state factor values v n m fits (phases.Optimal st s) l =
+      let x : values ≡ s.values = v l.0.solved ∙ ap (λ (f : Fresh). f.values) l.0.fresh in
+      let d : state.reduced ≡ s.reduced = l.0.solved.reduced ∙ ap (λ (f : Fresh). f.reduced) l.0.fresh in
       subst (λ (z : List Fraction). IsSized c (best_cert c s.values z) × Fits (best_cert c s.values z)) d
       (subst (λ (z : List Fraction). IsSized c (best_cert c z state.reduced) × Fits (best_cert c z state.reduced)) x (best_sized c values state.reduced n m, fits))
-  optimal_certified state values v n m fits a l = absurd l
+  optimal_certified state factor values v n m fits a l = absurd l
 
   pub infeasible_certified : (y : List Fraction) → length c.rows ≡ length y → All Fit y → (a : phases.Answer) → IsAnswerOf (model_form c) (answers.Infeasible y) a → IsCertified c a
   infeasible_certified y n fits (phases.Infeasible z) l =

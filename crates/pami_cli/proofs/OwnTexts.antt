@@ -1,5 +1,5 @@
 -- The text that `solve` wrote is a text of its answer's certificate, and `check` doesn't find that invalid.
-use Rattle.std.proofs.Common.{◌≡◌, ℕ, ◌+◌, ◌≤◌, ◌⊎◌, inl, inr, IfSome, List, [], ◌∷◌, ◌++◌, length, take, drop, codes, Option, None, Some, refl, sym}
+use Rattle.std.proofs.Common.{◌≡◌, ℕ, ◌≤◌, ◌⊎◌, inl, inr, IfSome, List, [], ◌∷◌, ◌++◌, length, take, drop, codes, Option, None, Some, refl, sym}
 use Rattle.std.proofs.Common.{ap, ◌∙◌, subst, append_assoc}
 use Rattle.std.proofs.lemmas.List.{append-nil, take-append-drop}
 use Rattle.pami_algebra.specs.Fraction.{Fraction}
@@ -38,9 +38,9 @@ use Rattle.pami_cli.specs.declared.status.Status.TheVariants as statuses
 use Rattle.pami_cli.specs.CertOf.{best_cert, direction_cert, cert_of}
 use Rattle.pami_cli.specs.Text.{run_text}
 use Rattle.pami_cli.specs.Reading.{Format}
-use Rattle.pami_cli.specs.Answer.{options_of, HasStatus, HoldsBest, HoldsFor, AnswersRun, AnswersModel}
+use Rattle.pami_cli.specs.Answer.{HasStatus, HoldsBest, HoldsFor, IsSound, AnswersRun, AnswersModel}
 use Rattle.pami_cli.specs.Judged.{verdict_status, Judges}
-use Rattle.pami_cli.specs.Run.{Answers, ChecksText, HasCertificate}
+use Rattle.pami_cli.specs.Run.{Answers, SolvesSoundly, ChecksText, HasCertificate}
 use Rattle.pami_cli.proofs.PlainNames.{read_names_are_plain}
 use Rattle.pami_cli.proofs.Readings.{one_text}
 use Rattle.pami_cli.proofs.Certs.{best_lines, direction_lines}
@@ -170,31 +170,31 @@ has_cert c (DualInfeasible st s) status e h = (direction_cert c s.values, refl)
 has_cert c (Limit st) status e h = absurd (no_certificate_at_limit status e h)
 has_cert c (Overflow r) status e h = absurd (no_certificate_at_overflow status e h)
 
-module _ (format : Format) (bytes : List ℕ) (limit : ℕ) (status : Status) (written : List ℕ)
+module _ (format : Format) (bytes : List ℕ) (options : Options) (status : Status) (written : List ℕ)
     (has : HasCertificate status) (short : length written ≤ byte_limit) where
-  run_judged : (c : Contents) → HasPlainNames c → AnswersRun c limit status written → (s : Status) (w : List ℕ) → Judges c written s w
+  run_judged : (c : Contents) → HasPlainNames c → (a : AnswersRun c options status written) → IsSound c a.answer → (s : Status) (w : List ℕ) → Judges c written s w
       → (s ≡ statuses.Good) ⊎ (s ≡ statuses.Unchecked)
-  run_judged c names a s w j =
+  run_judged c names a sound s w j =
       let found = has_cert c a.answer status a.has_status has in
-      let printable = subst (λ (k : Option Cert). IfSome k (λ (cert : Cert). IsSized c cert × Fits cert)) found.1 a.certified in
-      let text_of = run_is_text c names (options_of limit) a.told a.answer found.0 found.1 printable.0 printable.1
+      let printable = subst (λ (k : Option Cert). IfSome k (λ (cert : Cert). IsSized c cert × Fits cert)) found.1 sound.certified in
+      let text_of = run_is_text c names options a.told a.answer found.0 found.1 printable.0 printable.1
       (subst (λ (z : List ℕ). length z ≤ byte_limit) a.written_is short) in
       held_judged c written found.0 s w (subst (λ (z : List ℕ). IsCertText c z found.0) (sym a.written_is) text_of)
-      (answer_holds c a.answer found.0 found.1 a.holds) j
+      (answer_holds c a.answer found.0 found.1 sound.holds) j
 
-  pub own_text : Answers format bytes limit status written
+  pub own_text : Answers format bytes options status written → SolvesSoundly format bytes options
       → (s : Status) (w : List ℕ) → ChecksText format bytes written s w → (s ≡ statuses.Good) ⊎ (s ≡ statuses.Unchecked)
-  own_text (inr refused) s w check = absurd (no_certificate_refused status refused.status_is has)
-  own_text (inl a) s w check = by_model a.answer check
+  own_text (inr refused) soundly s w check = absurd (no_certificate_refused status refused.status_is has)
+  own_text (inl a) soundly s w check = by_model a.answer check
     where
-      by_check : AnswersRun a.model limit status written → first_wide (model_form a.model).bounds ≡ None → ChecksText format bytes written s w
+      by_check : AnswersRun a.model options status written → first_wide (model_form a.model).bounds ≡ None → ChecksText format bytes written s w
           → (s ≡ statuses.Good) ⊎ (s ≡ statuses.Unchecked)
       by_check run widths (inl r) = absurd (refused_or_accepted format bytes a.model w r.1 (record { text_of = a.text_of; widths = widths }))
       by_check run widths (inr k) =
-          run_judged a.model (read_names_are_plain format bytes a.model a.text_of) run s w
+          run_judged a.model (read_names_are_plain format bytes a.model a.text_of) run (soundly a.model a.text_of widths run.told run.answer run.run) s w
           (subst (λ (x : List ℕ). Judges a.model x s w) k.stands
           (subst (λ (m : Contents). Judges m k.text s w) (one_text format bytes k.model a.model k.accepted.text_of a.text_of) k.judged))
 
-      by_model : AnswersModel a.model limit status written → ChecksText format bytes written s w → (s ≡ statuses.Good) ⊎ (s ≡ statuses.Unchecked)
+      by_model : AnswersModel a.model options status written → ChecksText format bytes written s w → (s ≡ statuses.Good) ⊎ (s ≡ statuses.Unchecked)
       by_model (inl f) k = by_check f.run f.widths k
       by_model (inr wide) k = absurd (no_certificate_refused status wide.status_is has)

@@ -1,6 +1,6 @@
 -- Model files in each format: bytes have one model, or one first fault, and not both.
 use Rattle.std.proofs.lemmas.List.{length-replicate}
-use Rattle.std.proofs.Common.{suc, ◌≡◌, ℕ, ◌<◌, List, length, Option, None, Some, refl, arith, replicate}
+use Rattle.std.proofs.Common.{suc, ◌≡◌, ◌⊎◌, ℕ, ◌<◌, List, length, Option, None, Some, refl, arith, replicate}
 use Rattle.pami_edge.specs.Outside.{Files, HasFile, HasLongFile}
 use Rattle.pami_model.specs.declared.fault.FileFault.{FileFault}
 use Rattle.pami_model.specs.declared.fault.FileKind.TheVariants as kinds
@@ -22,6 +22,10 @@ one_refusal AsLp bytes f g a b = lp.one_fault bytes f g a b
 pub text_or_fault : (format : Format) (bytes : List ℕ) (c : Contents) (f : FileFault) → IsTextOf format bytes c → IsFirstFaultOf format bytes f → ⊥
 text_or_fault AsMps bytes c f is first = mps.not_both bytes c f is first
 text_or_fault AsLp bytes c f is first = lp.not_both bytes c f is first
+
+pub has_text_or_fault : (format : Format) (bytes : List ℕ) → ((c : Contents) × IsTextOf format bytes c) ⊎ ((f : FileFault) × IsFirstFaultOf format bytes f)
+has_text_or_fault AsMps bytes = mps.model_or_fault bytes
+has_text_or_fault AsLp bytes = lp.model_or_fault bytes
 
 -- a file that is too long has that fault, in no line
 abbrev pub long_fault : FileFault

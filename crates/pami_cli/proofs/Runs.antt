@@ -1,6 +1,8 @@
 -- What a call has to write, and that it is one text.
-use Rattle.std.proofs.Common.{◌≡◌, ℕ, ◌⊎◌, inl, inr, IsTrue, false, Bool, List, Some, Result, Ok, Err, sym, ap, ◌∙◌, subst}
-use Rattle.std.specs.Result.{IfOk, OnErr}
+use Rattle.std.proofs.Common.{◌≡◌, ℕ, ◌⊎◌, inl, inr, IsTrue, false, Bool, List, Some, Result, Ok, Err, refl, sym, ap, ◌∙◌, subst}
+use Rattle.pami_method.specs.declared.words.Options.{Options}
+use Rattle.pami_method.specs.Walk.{IsOptions}
+use Rattle.std.specs.Result.{IfOk, OnErr, OnOk}
 use Rattle.pami_algebra.specs.Fraction.{Fraction}
 use Rattle.pami_frac.specs.declared.fault.OutOfMemory.{OutOfMemory}
 use Rattle.pami_edge.specs.Outside.{Files, HasFile, HasLongFile}
@@ -13,6 +15,7 @@ use Rattle.pami_model.specs.declared.fault.FileFault.{FileFault}
 use Rattle.pami_model.specs.Rules.{byte_limit}
 use Rattle.pami_theory.specs.Certificate.{IsDualPoint}
 use Rattle.pami_model_form.specs.ModelForm.{model_form}
+use Rattle.pami_form.specs.Widths.{first_wide}
 use Rattle.pami_cli.specs.declared.status.Status.{Status}
 use Rattle.pami_cli.specs.declared.status.Status.TheVariants as statuses
 use Rattle.pami_cli.specs.declared.answer.Answer.{Answer}
@@ -20,11 +23,11 @@ use Rattle.pami_cli.specs.Text.{refused_text}
 use Rattle.pami_cli.specs.Reading.{Format, format_by, IsTextOf, IsFirstFaultOf}
 use Rattle.pami_method.specs.Phases.{Answer as RunAnswer, Optimal, Infeasible, DualInfeasible, Limit, Overflow}
 use Rattle.pami_cli.specs.Status.{is_judgement}
-use Rattle.pami_cli.specs.Answer.{HasStatus, AnswersModel}
-use Rattle.pami_cli.specs.Run.{Answers, IsModelAnswer, Refuses, Checks, ChecksText, CommandAnswers, file_of, format_of, IsFileRefused, IsCertJudged, IsAnswered, IsDue, IsWrittenBy, EndsBy, IsComplete, Call, AskFor, AreBad, Ends, IsOrFault}
-use Rattle.pami_cli.proofs.Answers.{one_model_answer, refused_model_is_wide, dual_infeasible_model}
-use Rattle.pami_cli.proofs.Readings.{one_text, one_refusal, text_or_fault, long_fault, long_file}
-use Rattle.pami_cli.proofs.Checks.{some_same, one_check, check_refuses}
+use Rattle.pami_cli.specs.Answer.{HasStatus, AnswersModel, RunsSoundly}
+use Rattle.pami_cli.specs.Run.{Answers, SolvesSoundly, IsModelAnswer, Refuses, Checks, ChecksText, CommandAnswers, file_of, format_of, IsFileRefused, IsCertJudged, IsAnswered, IsDue, IsWrittenBy, EndsBy, IsComplete, Call, AskFor, AreBad, Ends, IsOrFault}
+use Rattle.pami_cli.proofs.Answers.{one_model_answer, some_model_answer, refused_model_is_wide, dual_infeasible_model}
+use Rattle.pami_cli.proofs.Readings.{has_text_or_fault, one_text, one_refusal, text_or_fault, long_fault, long_file}
+use Rattle.pami_cli.proofs.Checks.{some_same, one_check, fitting_or_wide, check_refuses}
 
 -- words ask for one command, and not as well for none
 same_asked : {a b : Command} → ◌≡◌ {A = Result Command BadWords} (Ok a) (Ok b) → a ≡ b
@@ -34,16 +37,29 @@ bad_asked : {bad : BadWords} {a : Command} → ◌≡◌ {A = Result Command Bad
 bad_asked e = cc
 
 -- a model's answer is that of its text
-pub answered_ok : (format : Format) (bytes : List ℕ) (limit : ℕ) (c : Contents) (r : Result Answer OutOfMemory) → IsTextOf format bytes c → IfOk r (λ a. AnswersModel c limit a.status a.text.items)
-    → IfOk r (λ a. Answers format bytes limit a.status a.text.items)
-answered_ok format bytes limit c (Ok a) m h = inl (record { model = c; text_of = m; answer = h })
-answered_ok format bytes limit c (Err e) m h = h
+pub answered_ok : (format : Format) (bytes : List ℕ) (options : Options) (c : Contents) (r : Result Answer OutOfMemory) → IsTextOf format bytes c → IfOk r (λ a. AnswersModel c options a.status a.text.items)
+    → IfOk r (λ a. Answers format bytes options a.status a.text.items)
+answered_ok format bytes options c (Ok a) m h = inl (record { model = c; text_of = m; answer = h })
+answered_ok format bytes options c (Err e) m h = h
+
+-- and so is that it is sound
+pub sound_ok : (format : Format) (bytes : List ℕ) (options : Options) (c : Contents) (r : Result Answer OutOfMemory) → IsTextOf format bytes c → OnOk r (RunsSoundly c options) → OnOk r (SolvesSoundly format bytes options)
+sound_ok format bytes options c (Ok a) m h = λ d text. subst (λ x. RunsSoundly x options) (one_text format bytes c d m text) h
+sound_ok format bytes options c (Err e) m h = tt
+
+-- a file with a first fault has no model, and so no run
+pub refused_soundly : (format : Format) (bytes : List ℕ) (options : Options) (fault : FileFault) → IsFirstFaultOf format bytes fault → SolvesSoundly format bytes options
+refused_soundly format bytes options fault first = λ c text. absurd (text_or_fault format bytes c fault text first)
+
+pub any_soundly : {S : Type 0} (r : Result Answer OutOfMemory) → S → OnOk r S
+any_soundly (Ok a) s = s
+any_soundly (Err e) s = tt
 
 -- a file is refused at its first fault
-pub refused_ok : (format : Format) (bytes : List ℕ) (limit : ℕ) (fault : FileFault) (r : Result Answer OutOfMemory) → IsFirstFaultOf format bytes fault
-    → IfOk r (λ a. a.status ≡ statuses.File) → IfOk r (λ a. a.text.items ≡ refused_text fault) → IfOk r (λ a. Answers format bytes limit a.status a.text.items)
-refused_ok format bytes limit fault (Ok a) first e w = inr (record { fault = fault; first = first; status_is = e; written_is = w })
-refused_ok format bytes limit fault (Err x) first e w = tt
+pub refused_ok : (format : Format) (bytes : List ℕ) (options : Options) (fault : FileFault) (r : Result Answer OutOfMemory) → IsFirstFaultOf format bytes fault
+    → IfOk r (λ a. a.status ≡ statuses.File) → IfOk r (λ a. a.text.items ≡ refused_text fault) → IfOk r (λ a. Answers format bytes options a.status a.text.items)
+refused_ok format bytes options fault (Ok a) first e w = inr (record { fault = fault; first = first; status_is = e; written_is = w })
+refused_ok format bytes options fault (Err x) first e w = tt
 
 -- an answer that memory may have run out for was written as far as may be
 pub answer_ends : {Due : Status → List ℕ → Type 0} (sink : SinkCall) (result : Status) (r : Result Answer OutOfMemory) → IfOk r (λ a. Due a.status a.text.items)
@@ -56,28 +72,35 @@ pub ends_too : {D E : Status → List ℕ → Type 0} (sink : SinkCall) (result 
 ends_too sink result h (inl o) = inl o
 ends_too sink result h (inr w) = inr (record { due = w.due; written = w.written; is_due = h w.due w.written w.is_due; as_far = w.as_far })
 
+-- what is due, with a fact of the file
+with_fact : (S : Type 0) (Due : Status → List ℕ → Type 0) (r : Result Answer OutOfMemory) → IfOk r (λ a. Due a.status a.text.items) → OnOk r S → IfOk r (λ a. Due a.status a.text.items × S)
+with_fact S Due (Ok a) d s = (d, s)
+with_fact S Due (Err e) d s = d
+
 -- what `solve` answers is due
-module _ (k : Call) (result : Status) (file : List ℕ) (lp : Bool) (limit : ℕ) (asks : AskFor k.words (Solve file lp limit)) where
-  pub ends_answer : (bytes : List ℕ) (r : Result Answer OutOfMemory) → HasFile k.shelf.files file bytes → IfOk r (λ a. Answers (format_by lp) bytes limit a.status a.text.items)
+module _ (k : Call) (result : Status) (file : List ℕ) (lp : Bool) (options : Options) (asks : AskFor k.words (Solve file lp options)) where
+  pub ends_answer : (bytes : List ℕ) (r : Result Answer OutOfMemory) → HasFile k.shelf.files file bytes → IfOk r (λ a. Answers (format_by lp) bytes options a.status a.text.items)
+      → OnOk r (SolvesSoundly (format_by lp) bytes options)
       → IfOk r (λ a. IsWrittenBy k.sink result a.status a.text.items) → OnErr r ((result ≡ statuses.OutOfMemory) × WroteNothing k.sink) → Ends k result
-  ends_answer bytes r h is w n =
-      ends_too k.sink result (λ s t a. inr (inr (record { command = Solve file lp limit; bytes = bytes; asks = asks; under = h; answer = a })))
-      (answer_ends {Due = Answers (format_by lp) bytes limit} k.sink result r is w n)
+  ends_answer bytes r h is sound w n =
+      let S : Type 0 = SolvesSoundly (format_by lp) bytes options in
+      ends_too k.sink result (λ s t a. inr (inr (record { command = Solve file lp options; bytes = bytes; asks = asks; under = h; answer = a.0; sound = a.1 })))
+      (answer_ends {Due = λ s t. Answers (format_by lp) bytes options s t × S} k.sink result r (with_fact S (Answers (format_by lp) bytes options) r is sound) w n)
 
   -- and of a file that is too long
   pub ends_long : (r : Result Answer OutOfMemory) → HasLongFile k.shelf.files file byte_limit → IfOk r (λ a. a.status ≡ statuses.File) → IfOk r (λ a. a.text.items ≡ refused_text long_fault)
       → IfOk r (λ a. IsWrittenBy k.sink result a.status a.text.items) → OnErr r ((result ≡ statuses.OutOfMemory) × WroteNothing k.sink) → Ends k result
   ends_long r long e t w n =
       let l = long_file (format_by lp) k.shelf.files file long in
-      ends_answer l.0 r l.1.0 (refused_ok (format_by lp) l.0 limit long_fault r l.1.1 e t) w n
+      ends_answer l.0 r l.1.0 (refused_ok (format_by lp) l.0 options long_fault r l.1.1 e t) (any_soundly r (refused_soundly (format_by lp) l.0 options long_fault l.1.1)) w n
 
 -- what the words and the bytes are answered is one status and one text
-module _ (format : Format) (bytes : List ℕ) (limit : ℕ) where
-  same_model : (s t : Status) (w v : List ℕ) (a : IsModelAnswer format bytes limit s w) (b : IsModelAnswer format bytes limit t v) → AnswersModel a.model limit t v
-  same_model s t w v a b = subst (λ c. AnswersModel c limit t v) (one_text format bytes b.model a.model b.text_of a.text_of) b.answer
+module _ (format : Format) (bytes : List ℕ) (options : Options) where
+  same_model : (s t : Status) (w v : List ℕ) (a : IsModelAnswer format bytes options s w) (b : IsModelAnswer format bytes options t v) → AnswersModel a.model options t v
+  same_model s t w v a b = subst (λ c. AnswersModel c options t v) (one_text format bytes b.model a.model b.text_of a.text_of) b.answer
 
-  pub one_answer : (s t : Status) (w v : List ℕ) → Answers format bytes limit s w → Answers format bytes limit t v → (s ≡ t) × (w ≡ v)
-  one_answer s t w v (inl a) (inl b) = one_model_answer a.model limit s t w v a.answer (same_model s t w v a b)
+  pub one_answer : (s t : Status) (w v : List ℕ) → Answers format bytes options s w → Answers format bytes options t v → (s ≡ t) × (w ≡ v)
+  one_answer s t w v (inl a) (inl b) = one_model_answer a.model options s t w v a.answer (same_model s t w v a b)
   one_answer s t w v (inl a) (inr b) = absurd (text_or_fault format bytes a.model b.fault a.text_of b.first)
   one_answer s t w v (inr a) (inl b) = absurd (text_or_fault format bytes b.model a.fault b.text_of a.first)
   one_answer s t w v (inr a) (inr b) = (
@@ -85,24 +108,32 @@ module _ (format : Format) (bytes : List ℕ) (limit : ℕ) where
     a.written_is ∙ ap refused_text (one_refusal format bytes a.fault b.fault a.first b.first) ∙ sym b.written_is,
   )
 
+  -- and there is one
+  pub some_answer : IsOptions options → (s : Status) × (w : List ℕ) × Answers format bytes options s w
+  some_answer o = by (has_text_or_fault format bytes)
+    where
+      by : ((c : Contents) × IsTextOf format bytes c) ⊎ ((fault : FileFault) × IsFirstFaultOf format bytes fault) → (s : Status) × (w : List ℕ) × Answers format bytes options s w
+      by (inl (c, text)) = let a = some_model_answer c options o in (a.0, a.1, inl (record { model = c; text_of = text; answer = a.2 }))
+      by (inr (fault, first)) = (statuses.File, refused_text fault, inr (record { fault = fault; first = first; status_is = refl; written_is = refl }))
+
   -- status 3 is for a first fault or a width that doesn't fit
-  pub refuses : (w : List ℕ) → Answers format bytes limit statuses.File w → Refuses format bytes w
-  refuses w (inl a) = inr (a.model, a.text_of, refused_model_is_wide a.model limit w a.answer)
+  pub refuses : (w : List ℕ) → Answers format bytes options statuses.File w → Refuses format bytes w
+  refuses w (inl a) = inr (a.model, a.text_of, refused_model_is_wide a.model options w a.answer)
   refuses w (inr b) = inl b
 
   -- and status 11 for a model whose dual program has no point
-  pub no_dual_point : (w : List ℕ) → Answers format bytes limit statuses.DualInfeasible w → (c : Contents) → IsTextOf format bytes c → (y d : ℕ → Fraction) → ¬ IsDualPoint (model_form c) y d
-  no_dual_point w (inl a) c text = subst (λ m. (y d : ℕ → Fraction) → ¬ IsDualPoint (model_form m) y d) (one_text format bytes a.model c a.text_of text) (dual_infeasible_model a.model limit w a.answer)
+  pub no_dual_point : (w : List ℕ) → Answers format bytes options statuses.DualInfeasible w → (c : Contents) → IsTextOf format bytes c → (y d : ℕ → Fraction) → ¬ IsDualPoint (model_form c) y d
+  no_dual_point w (inl a) c text = subst (λ m. (y d : ℕ → Fraction) → ¬ IsDualPoint (model_form m) y d) (one_text format bytes a.model c a.text_of text) (dual_infeasible_model a.model options w a.answer)
   no_dual_point w (inr b) c text = let e = b.status_is in absurd cc
 
 -- FILE, where it is refused, is answered so by `solve` too
-refused_answer : (format : Format) (bytes : List ℕ) (limit : ℕ) (w : List ℕ) → Refuses format bytes w → Answers format bytes limit statuses.File w
-refused_answer format bytes limit w (inl r) = inr r
-refused_answer format bytes limit w (inr (c, text, wide)) = inl (record { model = c; text_of = text; answer = inr wide })
+refused_answer : (format : Format) (bytes : List ℕ) (options : Options) (w : List ℕ) → Refuses format bytes w → Answers format bytes options statuses.File w
+refused_answer format bytes options w (inl r) = inr r
+refused_answer format bytes options w (inr (c, text, wide)) = inl (record { model = c; text_of = text; answer = inr wide })
 
 one_refused : (format : Format) (bytes : List ℕ) (w v : List ℕ) → Refuses format bytes w → Refuses format bytes v → w ≡ v
 one_refused format bytes w v a b =
-    (one_answer format bytes 0 statuses.File statuses.File w v (refused_answer format bytes 0 w a) (refused_answer format bytes 0 v b)).1
+    (one_answer format bytes (record { batch = 1; refactor = 0; limit = 0 }) statuses.File statuses.File w v (refused_answer format bytes (record { batch = 1; refactor = 0; limit = 0 }) w a) (refused_answer format bytes (record { batch = 1; refactor = 0; limit = 0 }) v b)).1
 
 -- `check` has one answer, where CERT has one text
 check_once : (format : Format) (bytes : List ℕ) (under : List ℕ → Type 0) → ((x y : List ℕ) → under x → under y → x ≡ y) → (s t : Status) (w v : List ℕ)
@@ -112,17 +143,25 @@ check_once format bytes under one s t w v a b = one_check format bytes under one
 pub one_checked : (format : Format) (bytes text : List ℕ) (s t : Status) (w v : List ℕ) → ChecksText format bytes text s w → ChecksText format bytes text t v → (s ≡ t) × (w ≡ v)
 one_checked format bytes text s t w v a b = check_once format bytes (λ (x : List ℕ). x ≡ text) (λ x y p q. p ∙ sym q) s t w v a b
 
+-- and there is one
+pub some_check : (format : Format) (bytes text : List ℕ) → (s : Status) × (w : List ℕ) × ChecksText format bytes text s w
+some_check format bytes text = by (has_text_or_fault format bytes)
+  where
+    by : ((c : Contents) × IsTextOf format bytes c) ⊎ ((fault : FileFault) × IsFirstFaultOf format bytes fault) → (s : Status) × (w : List ℕ) × ChecksText format bytes text s w
+    by (inl (c, is)) = fitting_or_wide format bytes text c is (first_wide (model_form c).bounds) refl
+    by (inr (fault, first)) = (statuses.File, refused_text fault, inl (refl, inl (record { fault = fault; first = first; status_is = refl; written_is = refl })))
+
 -- a command has one answer on its files
 one_command_answer : (command : Command) (bytes : List ℕ) (files : Files) (s t : Status) (w v : List ℕ) → CommandAnswers command bytes (HasFile (Some files)) s w
     → CommandAnswers command bytes (HasFile (Some files)) t v → (s ≡ t) × (w ≡ v)
-one_command_answer (Solve file lp limit) bytes files s t w v a b = one_answer (format_by lp) bytes limit s t w v a b
+one_command_answer (Solve file lp options) bytes files s t w v a b = one_answer (format_by lp) bytes options s t w v a b
 one_command_answer (Check file cert lp) bytes files s t w v a b =
     check_once (format_by lp) bytes (HasFile (Some files) cert) (λ x y p q. some_same (sym p ∙ q)) s t w v a b
 
 -- status 3 is for a FILE that is refused
 command_refuses : (command : Command) (bytes : List ℕ) (under : List ℕ → List ℕ → Type 0) (w : List ℕ) → CommandAnswers command bytes under statuses.File w
     → Refuses (format_of command) bytes w
-command_refuses (Solve file lp limit) bytes under w a = refuses (format_by lp) bytes limit w a
+command_refuses (Solve file lp options) bytes under w a = refuses (format_by lp) bytes options w a
 command_refuses (Check file cert lp) bytes under w a = check_refuses (format_by lp) bytes (under cert) w a
 
 -- exactly that answer, or a fault in its place
@@ -221,13 +260,13 @@ no_run_judges (DualInfeasible st x) s h j = untrue (subst (λ z. IsTrue (is_judg
 no_run_judges (Limit st) s h j = untrue (subst (λ z. IsTrue (is_judgement z)) h j)
 no_run_judges (Overflow r) s h j = untrue (subst (λ z. IsTrue (is_judgement z)) h j)
 
-no_model_judged : (c : Contents) (limit : ℕ) (s : Status) (w : List ℕ) → AnswersModel c limit s w → IsTrue (is_judgement s) → ⊥
-no_model_judged c limit s w (inl f) j = no_run_judges f.run.answer s f.run.has_status j
-no_model_judged c limit s w (inr wide) j = untrue (subst (λ z. IsTrue (is_judgement z)) wide.status_is j)
+no_model_judged : (c : Contents) (options : Options) (s : Status) (w : List ℕ) → AnswersModel c options s w → IsTrue (is_judgement s) → ⊥
+no_model_judged c options s w (inl f) j = no_run_judges f.run.answer s f.run.has_status j
+no_model_judged c options s w (inr wide) j = untrue (subst (λ z. IsTrue (is_judgement z)) wide.status_is j)
 
-solve_judges_none : (format : Format) (bytes : List ℕ) (limit : ℕ) (s : Status) (w : List ℕ) → Answers format bytes limit s w → IsTrue (is_judgement s) → ⊥
-solve_judges_none format bytes limit s w (inl a) j = no_model_judged a.model limit s w a.answer j
-solve_judges_none format bytes limit s w (inr r) j = untrue (subst (λ z. IsTrue (is_judgement z)) r.status_is j)
+solve_judges_none : (format : Format) (bytes : List ℕ) (options : Options) (s : Status) (w : List ℕ) → Answers format bytes options s w → IsTrue (is_judgement s) → ⊥
+solve_judges_none format bytes options s w (inl a) j = no_model_judged a.model options s w a.answer j
+solve_judges_none format bytes options s w (inr r) j = untrue (subst (λ z. IsTrue (is_judgement z)) r.status_is j)
 
 module _ (k : Call) (result : Status) (judgement : IsTrue (is_judgement result)) where
   none : {A : Type 0} (s : Status) → result ≡ s → (IsTrue (is_judgement s) → ⊥) → A
@@ -235,7 +274,7 @@ module _ (k : Call) (result : Status) (judgement : IsTrue (is_judgement result))
 
   judged_command : (command : Command) (bytes t : List ℕ) → AskFor k.words command → HasFile k.shelf.files (file_of command) bytes
       → CommandAnswers command bytes (HasFile k.shelf.files) result t → Wrote k.sink t → IsCertJudged k result
-  judged_command (Solve file lp limit) bytes t asks under a g = absurd (solve_judges_none (format_by lp) bytes limit result t a judgement)
+  judged_command (Solve file lp options) bytes t asks under a g = absurd (solve_judges_none (format_by lp) bytes options result t a judgement)
   judged_command (Check file cert lp) bytes t asks under (inl refused) g = none statuses.File refused.0 untrue
   judged_command (Check file cert lp) bytes t asks under (inr a) g =
       record { file = file; cert = cert; lp = lp; bytes = bytes; written = t; asks = asks; under = under; answer = a; wrote = g }

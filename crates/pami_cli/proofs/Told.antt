@@ -1,7 +1,7 @@
 -- What a model is answered from the run on its form.
 use Rattle.std.proofs.Common.{◌≡◌, ℕ, ◌<◌, inl, inr, List, [], ◌∷◌, ◌++◌, length, Option, None, Some, Result, Ok, Err, refl, sym, ap, ◌∙◌, subst, append_assoc}
 use Rattle.std.specs.List.{flat_map}
-use Rattle.std.specs.Result.{IfOk}
+use Rattle.std.specs.Result.{IfOk, OnOk}
 use Rattle.std.proofs.lemmas.Grind.{flat_map-append}
 use Rattle.pami_frac.specs.declared.fault.OutOfMemory.{OutOfMemory}
 use Rattle.pami_linear.specs.Lists.{get}
@@ -10,12 +10,13 @@ use Rattle.pami_theory.specs.Form.{variables, limits, IsUncrossed}
 use Rattle.pami_method.specs.declared.words.Options.{Options}
 use Rattle.pami_method.specs.Phases.{Phase, Record, Answer, Optimal, Infeasible, DualInfeasible, Limit, Overflow, IsRun}
 use Rattle.pami_method.proofs.Answers.{run_holds}
+use Rattle.pami_method.proofs.Runs.{run_only}
 use Rattle.pami_form.specs.declared.form.Form.{Form as ProgramForm}
 use Rattle.pami_form.specs.declared.form.WideBox.{WideBox}
 use Rattle.pami_form.specs.Widths.{first_wide}
 use Rattle.pami_state.specs.Columns.{HasBounds}
 use Rattle.pami_state.proofs.Formed.{has_bounds, variables_are}
-use Rattle.pami_major.specs.Ready.{form_of}
+use Rattle.pami_form.specs.FormOf.{form_of}
 use Rattle.pami_lines.specs.Line.{text}
 use Rattle.pami_lines.specs.Head.{Counts, head_lines, phase_line}
 use Rattle.pami_lines.specs.Names.{Names}
@@ -34,7 +35,7 @@ use Rattle.pami_cli.specs.declared.status.Status.{Status}
 use Rattle.pami_cli.specs.declared.status.Status.TheVariants as statuses
 use Rattle.pami_cli.specs.Text.{begun_text, run_text, wide_text}
 use Rattle.pami_cli.specs.Solved.{IsTold}
-use Rattle.pami_cli.specs.Answer.{options_of, HasStatus, HoldsFor, IsCertified, AnswersRun, AnswersModel}
+use Rattle.pami_cli.specs.Answer.{HasStatus, HoldsFor, IsCertified, RunsSoundly, AnswersRun, AnswersModel}
 
 -- ---- texts
 -- the texts of events are the text of their lines
@@ -91,37 +92,54 @@ module _ (c : Contents) (form : ProgramForm) (is : form_of form ≡ model_form c
   whole : length (model_form c).bounds ≡ variables (model_form c)
   whole = ap length model_bounds.same ∙ model_bounds.by_variable
 
-  pub told_run : (limit : ℕ) (status : Status) (written : List ℕ) (answer : Solved) (events : List Event) (t : IsTold (model_form c) (options_of limit) answer events) → HasStatus t.given status
-      → written ≡ begun_text c events ++ text (answer_lines (named_of c) t.given) → IsCertified c t.given → AnswersRun c limit status written
-  told_run limit status written answer events t k e certified = record {
+  pub told_run : (options : Options) (status : Status) (written : List ℕ) (answer : Solved) (events : List Event) (t : IsTold (model_form c) options answer events) → HasStatus t.given status
+      → written ≡ begun_text c events ++ text (answer_lines (named_of c) t.given) → AnswersRun c options status written
+  told_run options status written answer events t k e = record {
     told = t.run.record_of;
     answer = t.given;
     run = t.run.run;
     has_status = k;
-    holds = run_answer_holds c (options_of limit) t.run.record_of t.given uncrossed whole t.run.run;
-    certified = certified;
-    written_is = e ∙ run_text_is c (options_of limit) t.run.record_of t.given events t.run.whole;
+    written_is = e ∙ run_text_is c options t.run.record_of t.given events t.run.whole;
   }
 
+  -- the form has one run, so what is known of the answer that was told is known of its answer
+  pub told_sound : (options : Options) (answer : Solved) (events : List Event) (t : IsTold (model_form c) options answer events) → IsCertified c t.given → RunsSoundly c options
+  told_sound options answer events t certified = λ widths told a run.
+      let same : t.given ≡ a = (run_only (model_form c) options t.run.record_of told t.given a t.run.run run).1 in
+      record {
+        holds = run_answer_holds c options told a uncrossed whole run;
+        certified = subst (IsCertified c) same certified;
+      }
+
   -- the answer of a run whose events were told to an empty list
-  pub solved_told : (limit : ℕ) (before told : List Event) (stopped : List Event → Type 0) (n m : ℕ) (answer : Solved) → before ≡ []
-      → EndsRun (form_of form) (options_of limit) [] (λ es. before ≡ es) (λ es. told ≡ es) stopped n m (Ok answer) → IsTold (model_form c) (options_of limit) answer told
-  solved_told limit before told stopped n m answer e (events, a, run, ans, goes, k) =
-      subst (λ f. IsTold f (options_of limit) answer told) is
-      (record { given = a; run = subst (λ es. IsRunBehind (form_of form) (options_of limit) [] es a) (sym (goes [] e)) run; is = ans })
+  pub solved_told : (options : Options) (before told : List Event) (stopped : List Event → Type 0) (n m : ℕ) (answer : Solved) → before ≡ []
+      → EndsRun (form_of form) options [] (λ es. before ≡ es) (λ es. told ≡ es) stopped n m (Ok answer) → IsTold (model_form c) options answer told
+  solved_told options before told stopped n m answer e (events, a, run, given, goes, k) =
+      subst (λ f. IsTold f options answer told) is
+      (record { given = a; run = subst (λ es. IsRunBehind (form_of form) options [] es a) (sym (goes [] e)) run; is = given.is })
 
 -- an answer is written with the lines of its run
-pub told_model : (c : Contents) (limit : ℕ) (answer : Solved) (events : List Event) (r : Result Answered OutOfMemory) → IsTold (model_form c) (options_of limit) answer events
-    → IfOk r (λ a. (limit : ℕ) → IsTold (model_form c) (options_of limit) answer events → AnswersRun c limit a.status a.text.items) → IfOk r (λ a. AnswersRun c limit a.status a.text.items)
-told_model c limit answer events (Ok a) t h = h limit t
-told_model c limit answer events (Err x) t h = tt
+pub told_model : (c : Contents) (options : Options) (answer : Solved) (events : List Event) (r : Result Answered OutOfMemory) → IsTold (model_form c) options answer events
+    → IfOk r (λ a. (options : Options) → IsTold (model_form c) options answer events → AnswersRun c options a.status a.text.items) → IfOk r (λ a. AnswersRun c options a.status a.text.items)
+told_model c options answer events (Ok a) t h = h options t
+told_model c options answer events (Err x) t h = tt
+
+pub told_soundly : (c : Contents) (options : Options) (answer : Solved) (events : List Event) (r : Result Answered OutOfMemory) → IsTold (model_form c) options answer events
+    → OnOk r ((options : Options) → IsTold (model_form c) options answer events → RunsSoundly c options) → OnOk r (RunsSoundly c options)
+told_soundly c options answer events (Ok a) t h = h options t
+told_soundly c options answer events (Err x) t h = tt
 
 -- ---- widths
-pub wide_model : (c : Contents) (limit : ℕ) (box : WideBox) (r : Result Answered OutOfMemory) → first_wide (model_form c).bounds ≡ Some box → IfOk r (λ a. a.status ≡ statuses.File) → IfOk r (λ a. a.text.items ≡ wide_text c box.variable)
-    → IfOk r (λ a. AnswersModel c limit a.status a.text.items)
-wide_model c limit box (Ok a) first e w = inr (record { box = box; first = first; status_is = e; written_is = w })
-wide_model c limit box (Err x) first e w = tt
+pub wide_model : (c : Contents) (options : Options) (box : WideBox) (r : Result Answered OutOfMemory) → first_wide (model_form c).bounds ≡ Some box → IfOk r (λ a. a.status ≡ statuses.File) → IfOk r (λ a. a.text.items ≡ wide_text c box.variable)
+    → IfOk r (λ a. AnswersModel c options a.status a.text.items)
+wide_model c options box (Ok a) first e w = inr (record { box = box; first = first; status_is = e; written_is = w })
+wide_model c options box (Err x) first e w = tt
 
-pub fitting_model : (c : Contents) (limit : ℕ) (r : Result Answered OutOfMemory) → first_wide (model_form c).bounds ≡ None → IfOk r (λ a. AnswersRun c limit a.status a.text.items) → IfOk r (λ a. AnswersModel c limit a.status a.text.items)
-fitting_model c limit (Ok a) fits h = inl (record { widths = fits; run = h })
-fitting_model c limit (Err x) fits h = tt
+-- and then the model has no run
+pub wide_soundly : (c : Contents) (options : Options) (box : WideBox) (r : Result Answered OutOfMemory) → first_wide (model_form c).bounds ≡ Some box → OnOk r (RunsSoundly c options)
+wide_soundly c options box (Ok a) first = λ widths told answer run. absurd (let e = sym widths ∙ first in cc)
+wide_soundly c options box (Err x) first = tt
+
+pub fitting_model : (c : Contents) (options : Options) (r : Result Answered OutOfMemory) → first_wide (model_form c).bounds ≡ None → IfOk r (λ a. AnswersRun c options a.status a.text.items) → IfOk r (λ a. AnswersModel c options a.status a.text.items)
+fitting_model c options (Ok a) fits h = inl (record { widths = fits; run = h })
+fitting_model c options (Err x) fits h = tt

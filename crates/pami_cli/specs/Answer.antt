@@ -20,10 +20,6 @@ use Rattle.pami_cert.specs.CertText.{Fits}
 use Rattle.pami_cli.specs.CertOf.{cert_of}
 use Rattle.pami_cli.specs.Text.{run_text, wide_text}
 
--- one row a major, a new elimination in each, and this limit of pivots
-abbrev pub options_of : ℕ → Options
-options_of limit = record { batch = 1; refactor = 0; limit = limit }
-
 -- the status that goes with an answer
 abbrev pub HasStatus : Answer → Status → Type 0
 HasStatus (Optimal st s) status = status ≡ statuses.Good
@@ -50,20 +46,28 @@ HoldsFor c (Overflow refused) = Unit {0}
 abbrev pub IsCertified : Contents → Answer → Type 0
 IsCertified c answer = IfSome (cert_of c answer) (λ (cert : Cert). IsSized c cert × Fits cert)
 
--- the run of the model's form
-pub record AnswersRun (c : Contents) (limit : ℕ) (status : Status) (written : List ℕ) : Type 0 where
-  pub told : Record
-  pub answer : Answer
-  pub run : IsRun (model_form c) (options_of limit) told answer
-  pub has_status : HasStatus answer status
+-- and so an answer is sound
+pub record IsSound (c : Contents) (answer : Answer) : Type 0 where
   pub holds : HoldsFor c answer
   pub certified : IsCertified c answer
-  pub written_is : written ≡ run_text c (options_of limit) told answer
+
+-- what the run of the model's form is answered is sound, where every width fits
+abbrev pub RunsSoundly : Contents → Options → Type 0
+RunsSoundly c options =
+    first_wide (model_form c).bounds ≡ None → (told : Record) (answer : Answer) → IsRun (model_form c) options told answer → IsSound c answer
+
+-- the run of the model's form
+pub record AnswersRun (c : Contents) (options : Options) (status : Status) (written : List ℕ) : Type 0 where
+  pub told : Record
+  pub answer : Answer
+  pub run : IsRun (model_form c) options told answer
+  pub has_status : HasStatus answer status
+  pub written_is : written ≡ run_text c options told answer
 
 -- every width of the form fits
-pub record AnswersFitting (c : Contents) (limit : ℕ) (status : Status) (written : List ℕ) : Type 0 where
+pub record AnswersFitting (c : Contents) (options : Options) (status : Status) (written : List ℕ) : Type 0 where
   pub widths : first_wide (model_form c).bounds ≡ None
-  pub run : AnswersRun c limit status written
+  pub run : AnswersRun c options status written
 
 -- a width doesn't fit: the model is refused at the least such variable
 pub record AnswersWide (c : Contents) (status : Status) (written : List ℕ) : Type 0 where
@@ -73,5 +77,5 @@ pub record AnswersWide (c : Contents) (status : Status) (written : List ℕ) : T
   pub written_is : written ≡ wide_text c box.variable
 
 -- a status and a whole text
-abbrev pub AnswersModel : Contents → ℕ → Status → List ℕ → Type 0
-AnswersModel c limit status written = AnswersFitting c limit status written ⊎ AnswersWide c status written
+abbrev pub AnswersModel : Contents → Options → Status → List ℕ → Type 0
+AnswersModel c options status written = AnswersFitting c options status written ⊎ AnswersWide c status written

@@ -5,6 +5,7 @@ use Rattle.pami_edge.specs.Calls.{ShelfCall, SinkCall, ShelfFailed, SinkFailed, 
 use Rattle.pami_words.specs.declared.command.Command.{Command}
 use Rattle.pami_words.specs.declared.command.Command.TheVariants.{Solve, Check}
 use Rattle.pami_words.specs.Words.{read_outcome}
+use Rattle.pami_method.specs.declared.words.Options.{Options}
 use Rattle.pami_model.specs.declared.fault.FileFault.{FileFault}
 use Rattle.pami_model.specs.Contents.{Contents}
 use Rattle.pami_model_form.specs.ModelForm.{model_form}
@@ -12,7 +13,7 @@ use Rattle.pami_form.specs.Widths.{first_wide}
 use Rattle.pami_cli.specs.declared.status.Status.{Status}
 use Rattle.pami_cli.specs.declared.status.Status.TheVariants.{Good, Words, File, ReadFault, WriteFault, OutOfMemory, Infeasible, DualInfeasible}
 use Rattle.pami_cli.specs.Reading.{Format, format_by, IsTextOf, IsFirstFaultOf}
-use Rattle.pami_cli.specs.Answer.{AnswersModel, AnswersWide}
+use Rattle.pami_cli.specs.Answer.{AnswersModel, AnswersWide, RunsSoundly}
 use Rattle.pami_cli.specs.Judged.{Judges}
 use Rattle.pami_cli.specs.Text.{bad_words_text, refused_text, read_fault_text}
 
@@ -27,10 +28,10 @@ pub record TellsReadFault (shelf : ShelfCall) (status : Status) (written : List 
 -- ---- solve
 
 -- the bytes are a text of a model that is answered so
-pub record IsModelAnswer (format : Format) (bytes : List ℕ) (limit : ℕ) (status : Status) (written : List ℕ) : Type 0 where
+pub record IsModelAnswer (format : Format) (bytes : List ℕ) (options : Options) (status : Status) (written : List ℕ) : Type 0 where
   pub model : Contents
   pub text_of : IsTextOf format bytes model
-  pub answer : AnswersModel model limit status written
+  pub answer : AnswersModel model options status written
 
 -- the bytes have a first fault, and are refused at it
 pub record IsRefused (format : Format) (bytes : List ℕ) (status : Status) (written : List ℕ) : Type 0 where
@@ -39,10 +40,14 @@ pub record IsRefused (format : Format) (bytes : List ℕ) (status : Status) (wri
   pub status_is : status ≡ File
   pub written_is : written ≡ refused_text fault
 
--- what `solve` answers on the bytes of FILE, read in this format, with this limit of pivots
-abbrev pub Answers : Format → List ℕ → ℕ → Status → List ℕ → Type 0
-Answers format bytes limit status written =
-    IsModelAnswer format bytes limit status written ⊎ IsRefused format bytes status written
+-- what `solve` answers on the bytes of FILE, read in this format, with these options
+abbrev pub Answers : Format → List ℕ → Options → Status → List ℕ → Type 0
+Answers format bytes options status written =
+    IsModelAnswer format bytes options status written ⊎ IsRefused format bytes status written
+
+-- and what the run of its model is answered is sound
+abbrev pub SolvesSoundly : Format → List ℕ → Options → Type 0
+SolvesSoundly format bytes options = (c : Contents) → IsTextOf format bytes c → RunsSoundly c options
 
 -- FILE is no text of a model, or is one with a width that doesn't fit
 abbrev pub Refuses : Format → List ℕ → List ℕ → Type 0
@@ -100,22 +105,27 @@ AreBad words = read_outcome words ≡ Err (record {})
 
 -- the names of the files that a command reads, in this order
 abbrev pub files_of : Command → List (List ℕ)
-files_of (Solve file lp limit) = file ∷ []
+files_of (Solve file lp options) = file ∷ []
 files_of (Check file cert lp) = file ∷ cert ∷ []
 
 -- the name of FILE, and the format that it is read in
 abbrev pub file_of : Command → List ℕ
-file_of (Solve file lp limit) = file
+file_of (Solve file lp options) = file
 file_of (Check file cert lp) = file
 
 abbrev pub format_of : Command → Format
-format_of (Solve file lp limit) = format_by lp
+format_of (Solve file lp options) = format_by lp
 format_of (Check file cert lp) = format_by lp
 
 -- what a command answers on the bytes of FILE; `under` says which bytes stand under which name
 abbrev pub CommandAnswers : Command → List ℕ → (List ℕ → List ℕ → Type 0) → Status → List ℕ → Type 0
-CommandAnswers (Solve file lp limit) bytes under status written = Answers (format_by lp) bytes limit status written
+CommandAnswers (Solve file lp options) bytes under status written = Answers (format_by lp) bytes options status written
 CommandAnswers (Check file cert lp) bytes under status written = Checks (format_by lp) bytes (under cert) status written
+
+-- what `solve` answers on the bytes of FILE is sound; a judgement says itself what it is worth
+abbrev pub AnswersSoundly : Command → List ℕ → Type 0
+AnswersSoundly (Solve file lp options) bytes = SolvesSoundly (format_by lp) bytes options
+AnswersSoundly (Check file cert lp) bytes = Unit {0}
 
 -- ---- calls
 
@@ -128,13 +138,14 @@ pub record Call : Type 0 where
 abbrev pub call : List (List ℕ) → ShelfCall → SinkCall → Call
 call words shelf sink = record { words = words; shelf = shelf; sink = sink }
 
--- the words ask for a command, and this is its answer on bytes that stand under the names of its files
+-- the words ask for a command, and this is its answer on bytes that stand under the names of its files; it is sound
 pub record IsAnswered (call : Call) (status : Status) (written : List ℕ) : Type 0 where
   pub command : Command
   pub bytes : List ℕ
   pub asks : AskFor call.words command
   pub under : HasFile call.shelf.files (file_of command) bytes
   pub answer : CommandAnswers command bytes (HasFile call.shelf.files) status written
+  pub sound : AnswersSoundly command bytes
 
 -- the words are in the table, and the shelf failed
 pub record IsReadFault (call : Call) (status : Status) (written : List ℕ) : Type 0 where

@@ -3,15 +3,16 @@
 ghost use Rattle.std.specs.Prelude.{◌≡◌, ◌++◌, ℕ, IfOk, OnOk};
 ghost use Rattle.pami_model.specs.Contents.{contents};
 ghost use Rattle.pami_theory.specs.Form as theory;
+ghost use Rattle.pami_method.specs.declared.words.Options.{Options};
 ghost use Rattle.pami_method.specs.Phases as phases;
 ghost use Rattle.pami_model_form.specs.ModelForm.{model_form};
 ghost use Rattle.pami_model_form.specs.Named.{named_of};
 ghost use Rattle.pami_lines.specs.Line.{text};
 ghost use Rattle.pami_text.specs.Record.{answer_lines};
-ghost use Rattle.pami_major.specs.Ready.{form_of as form_for};
+ghost use Rattle.pami_form.specs.FormOf.{form_of as form_for};
 ghost use Rattle.pami_phase.specs.Runs.{IsAnswerOf};
 ghost use Rattle.pami_cli.specs.Solved.{IsReadable, IsTold};
-ghost use Rattle.pami_cli.specs.Answer.{options_of, HasStatus, IsCertified, AnswersRun};
+ghost use Rattle.pami_cli.specs.Answer.{HasStatus, IsCertified, RunsSoundly, AnswersRun};
 
 use crate::print::{
     begun, push_dual_infeasible, push_infeasible, push_limit, push_optimal, push_overflow,
@@ -64,7 +65,7 @@ fn push_answer(
         → IsCertified (contents model.now) a) }
 {
     match answer {
-        Solved::Optimal { state } => {
+        Solved::Optimal { state, factor: _ } => {
             let values = state.values(alloc, form.bounds.as_slice())?;
             push_optimal(alloc, out, model, values.as_slice(), state)
         }
@@ -92,9 +93,11 @@ pub fn told_answer(
 ) -> Result<Answer, OutOfMemory>
     requires form { form_for form.now ≡ model_form (contents model.now) }
     requires readable { IsReadable (model_form (contents model.now)) answer.now }
-    ensures { IfOk result (λ a. (limit : ℕ)
-        → IsTold (model_form (contents model.now)) (options_of limit) answer.now events.now
-        → AnswersRun (contents model.now) limit a.status a.text.items) }
+    ensures answer { IfOk result (λ a. (options : Options)
+        → IsTold (model_form (contents model.now)) options answer.now events.now
+        → AnswersRun (contents model.now) options a.status a.text.items) }
+    ensures sound { OnOk result ((options : Options)
+        → IsTold (model_form (contents model.now)) options answer.now events.now → RunsSoundly (contents model.now) options) }
 {
     let mut text = begun(alloc, model, events)?;
     push_answer(alloc, &mut text, model, form, answer)?;

@@ -12,6 +12,10 @@ mod check;
 #[cfg(test)]
 mod check_tests;
 #[cfg(test)]
+mod drawn_cases;
+#[cfg(test)]
+mod drawn_tests;
+#[cfg(test)]
 mod lp_tests;
 mod output;
 mod print;

@@ -1,15 +1,15 @@
 //! One run: the words, the files and the answer, from bytes to bytes.
 
-ghost use Rattle.std.specs.Prelude.{◌≡◌, ◌≤◌, ◌⊎◌, ℕ, List, [], ◌∷◌, Some, IfOk, IsTrue};
+ghost use Rattle.std.specs.Prelude.{◌≡◌, ◌≤◌, ◌⊎◌, ℕ, List, [], ◌∷◌, Some, IfOk, OnOk, IsTrue};
 ghost use Rattle.pami_edge.specs.Outside.{Files, HasFile};
 ghost use Rattle.pami_edge.specs.Calls.{shelf_call, sink_call, ShelfFailed, SinkFailed, ShelfCounted, SinkCounted, Wrote};
 ghost use Rattle.pami_words.specs.declared.command.Command.{Command};
 ghost use Rattle.pami_words.specs.declared.command.Command.TheVariants.{Solve};
-ghost use Rattle.pami_method.specs.Walk.{greatest_limit};
+ghost use Rattle.pami_method.specs.Walk.{IsOptions};
 ghost use Rattle.pami_cli.specs.declared.status.Status.{Status};
 ghost use Rattle.pami_cli.specs.Status.{is_judgement};
 ghost use Rattle.pami_cli.specs.Reading.{format_by};
-ghost use Rattle.pami_cli.specs.Run.{Answers, CommandAnswers, call, AskFor, AreBad, AsksFor, file_of, Ends, IsComplete, IsFileRefused, IsCertJudged, IsFront, IsOrFault, Refuses, format_of};
+ghost use Rattle.pami_cli.specs.Run.{Answers, SolvesSoundly, CommandAnswers, call, AskFor, AreBad, AsksFor, file_of, Ends, IsComplete, IsFileRefused, IsCertJudged, IsFront, IsOrFault, Refuses, format_of};
 
 use crate::answer::Answer;
 use crate::check::check_file;
@@ -20,41 +20,48 @@ use crate::solve::model_answer;
 use crate::status::Status;
 use pami_edge::{ReadStop, Shelf, Sink, Word, read_whole};
 use pami_frac::{Fault, OutOfMemory};
+use pami_major::Options;
 use pami_model::BYTE_LIMIT;
 use pami_words::{Command, read_words};
 use std::alloc::Global;
 
 /// What `solve` answers on the bytes of a file.
-fn file_answer(alloc: Global, bytes: &[u8], lp: bool, limit: u32) -> Result<Answer, OutOfMemory>
-    requires { limit ≤ greatest_limit }
-    ensures { IfOk result (λ a. Answers (format_by lp) bytes.now limit a.status a.text.items) }
+fn file_answer(
+    alloc: Global,
+    bytes: &[u8],
+    lp: bool,
+    options: Options,
+) -> Result<Answer, OutOfMemory>
+    requires { IsOptions options }
+    ensures answer { IfOk result (λ a. Answers (format_by lp) bytes.now options a.status a.text.items) }
+    ensures sound { OnOk result (SolvesSoundly (format_by lp) bytes.now options) }
 {
     match read_model(alloc, bytes, lp) {
-        Ok(model) => model_answer(alloc, &model, limit),
+        Ok(model) => model_answer(alloc, &model, options),
         Err(Fault::Named(fault)) => refused_file(alloc, fault),
         Err(Fault::OutOfMemory) => Err(OutOfMemory),
     }
 }
 
-/// Solves the model of one file, which is LP or else MPS, with at most `limit` pivots.
+/// Solves the model of one file, which is LP or else MPS, with these options.
 fn solve_file<S: Shelf, K: Sink>(
     alloc: Global,
     file: Word,
     lp: bool,
-    limit: u32,
+    options: Options,
     shelf: &mut S,
     out: &mut K,
 ) -> Status
     requires unasked { S.asked shelf.old ≡ [] }
-    requires limit { limit ≤ greatest_limit }
-    ensures ends { (words : List (List ℕ)) → AskFor words (Solve file lp limit)
+    requires options { IsOptions options }
+    ensures ends { (words : List (List ℕ)) → AskFor words (Solve file lp options)
         → Ends (call words (shelf_call S.Shelf shelf.old shelf.new) (sink_call K.Sink out.old out.new)) result }
     ensures asked { S.asked shelf.new ≡ file ∷ [] }
     ensures shelf_faults { ShelfCounted (shelf_call S.Shelf shelf.old shelf.new) → IsOrFault result Status.ReadFault }
     ensures sink_faults { SinkCounted (sink_call K.Sink out.old out.new) → result ≡ Status.WriteFault }
 {
     match read_whole(alloc, shelf, file, BYTE_LIMIT as u32) {
-        Ok(bytes) => finish_answer(out, file_answer(alloc, bytes.as_slice(), lp, limit)),
+        Ok(bytes) => finish_answer(out, file_answer(alloc, bytes.as_slice(), lp, options)),
         Err(ReadStop::Failed) => finish(out, Status::ReadFault, b"read fault\n"),
         Err(ReadStop::TooLong) => finish_answer(out, long_answer(alloc)),
         Err(ReadStop::OutOfMemory) => Status::OutOfMemory,
@@ -73,7 +80,9 @@ fn run_words<S: Shelf, K: Sink>(alloc: Global, words: &[Word], shelf: &mut S, ou
     ensures sink_faults { SinkCounted (sink_call K.Sink out.old out.new) → result ≡ Status.WriteFault }
 {
     match read_words(alloc, words) {
-        Ok(Command::Solve { file, lp, limit }) => solve_file(alloc, file, lp, limit, shelf, out),
+        Ok(Command::Solve { file, lp, options }) => {
+            solve_file(alloc, file, lp, options, shelf, out)
+        }
         Ok(Command::Check { file, cert, lp }) => check_file(alloc, file, cert, lp, shelf, out),
         Err(Fault::Named(_)) => finish(out, Status::Words, b"bad words\n"),
         Err(Fault::OutOfMemory) => Status::OutOfMemory,
@@ -82,9 +91,10 @@ fn run_words<S: Shelf, K: Sink>(alloc: Global, words: &[Word], shelf: &mut S, ou
 
 /// Runs the words over a shelf that was asked for nothing yet, writes the answer to the sink and tells how it ended.
 ///
-/// What the words ask is told by `read_words`: `solve` reads FILE, in its format, and solves the model with at most so many
-/// pivots; `check` reads FILE, and, where that is accepted, CERT, and judges the certificate against the model; words in no
-/// row of the table are bad words. No other name is asked for.
+/// What the words ask is told by `read_words`: `solve` reads FILE, in its format, and solves the model with its
+/// options: the most rows of a batch, the most pivots that a factor is kept for, and the limit of pivots; `check` reads FILE,
+/// and, where that is accepted, CERT, and judges the certificate against the model; words in no row of the table are bad
+/// words. No other name is asked for.
 pub fn run_plain<S: Shelf, K: Sink>(
     alloc: Global,
     words: &[Word],
@@ -94,10 +104,12 @@ pub fn run_plain<S: Shelf, K: Sink>(
     requires unasked { S.asked shelf.old ≡ [] }
 
     // Whatever the answer: it is that of the definition on bytes under the names of its files, and was written whole, or a
-    // fault or want of memory took its place.
+    // fault or want of memory took its place. What `solve` answers is sound: it holds against the model of FILE, and its
+    // certificate can be read again.
     ensures ends { Ends (call words.now (shelf_call S.Shelf shelf.old shelf.new) (sink_call K.Sink out.old out.new)) result }
 
-    // Over a shelf that tells its files, the answer is exactly that of the definition on the bytes under their names.
+    // Over a shelf that tells its files, the answer is exactly that of the definition on the bytes under their names; there is
+    // one (`files_have_an_answer`, `checks_have_an_answer`).
     ensures exact { (files : Files) (command : Command) (bytes written : List ℕ) (status : Status)
         → S.files shelf.old ≡ Some files → AskFor words.now command → files (file_of command) ≡ Some bytes
         → CommandAnswers command bytes (HasFile (Some files)) status written

@@ -1,11 +1,11 @@
 //! What a model is answered: its form, and the run there.
 
-ghost use Rattle.std.specs.Prelude.{◌≡◌, ◌≤◌, IfOk};
+ghost use Rattle.std.specs.Prelude.{◌≡◌, ◌≤◌, IfOk, OnOk};
 ghost use Rattle.pami_model.specs.Contents.{contents};
-ghost use Rattle.pami_method.specs.Walk.{greatest_limit};
-ghost use Rattle.pami_major.specs.Ready.{form_of as form_for};
+ghost use Rattle.pami_method.specs.Walk.{IsOptions};
+ghost use Rattle.pami_form.specs.FormOf.{form_of as form_for};
 ghost use Rattle.pami_model_form.specs.ModelForm.{model_form};
-ghost use Rattle.pami_cli.specs.Answer.{AnswersRun, AnswersModel};
+ghost use Rattle.pami_cli.specs.Answer.{RunsSoundly, AnswersRun, AnswersModel};
 
 use crate::answer::{Answer, told_answer};
 use crate::refuse::refused_width;
@@ -18,17 +18,18 @@ use pami_model::Model;
 use pami_phase::solve;
 use std::alloc::Global;
 
-/// What a model of this form is answered, with at most `limit` pivots.
-fn form_answer(alloc: Global, model: &Model, form: &Form, limit: u32) -> Result<Answer, OutOfMemory>
-    requires limit { limit ≤ greatest_limit }
+/// What a model of this form is answered with these options.
+fn form_answer(
+    alloc: Global,
+    model: &Model,
+    form: &Form,
+    options: Options,
+) -> Result<Answer, OutOfMemory>
+    requires options { IsOptions options }
     requires form { form_for form.now ≡ model_form (contents model.now) }
-    ensures { IfOk result (λ a. AnswersRun (contents model.now) limit a.status a.text.items) }
+    ensures answer { IfOk result (λ a. AnswersRun (contents model.now) options a.status a.text.items) }
+    ensures sound { OnOk result (RunsSoundly (contents model.now) options) }
 {
-    let options = Options {
-        batch: 1,
-        refactor: 0,
-        limit,
-    };
     let mut teller = ListTeller::new(alloc)?;
     // Nobody asks for the count.
     let mut steps = Steps::<()>::new();
@@ -40,17 +41,18 @@ fn form_answer(alloc: Global, model: &Model, form: &Form, limit: u32) -> Result<
     }
 }
 
-/// What a model is answered, with at most `limit` pivots.
+/// What a model is answered with these options.
 ///
 /// # Errors
 ///
 /// `OutOfMemory` alone.
-pub fn model_answer(alloc: Global, model: &Model, limit: u32) -> Result<Answer, OutOfMemory>
-    requires limit { limit ≤ greatest_limit }
-    ensures { IfOk result (λ a. AnswersModel (contents model.now) limit a.status a.text.items) }
+pub fn model_answer(alloc: Global, model: &Model, options: Options) -> Result<Answer, OutOfMemory>
+    requires options { IsOptions options }
+    ensures answer { IfOk result (λ a. AnswersModel (contents model.now) options a.status a.text.items) }
+    ensures sound { OnOk result (RunsSoundly (contents model.now) options) }
 {
     match form_of(alloc, model) {
-        Ok(form) => form_answer(alloc, model, &form, limit),
+        Ok(form) => form_answer(alloc, model, &form, options),
         Err(Fault::Named(wide)) => refused_width(alloc, model, wide.variable),
         Err(Fault::OutOfMemory) => Err(OutOfMemory),
     }

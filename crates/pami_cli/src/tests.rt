@@ -5,6 +5,7 @@ use crate::solve::model_answer;
 use crate::status::Status;
 use pami_edge::{MemoryShelf, MemorySink, Word};
 use pami_frac::{Bounds, Frac};
+use pami_major::Options;
 use pami_model::Builder;
 use std::alloc::Global;
 use std::process::Abort;
@@ -31,19 +32,32 @@ pub(crate) fn words(alloc: Global, texts: &[&str]) -> Result<Vec<Word>, Fail> {
     Ok(words)
 }
 
-/// `solve m.mps` with this limit of pivots, or with none given where it is empty, over a file of these bytes: the status's
-/// number and what was written.
-fn solved(alloc: Global, limit: &str, bytes: &[u8]) -> Result<(u8, Vec<u8>), Fail> {
+/// `solve m.mps` with these options, and this limit of pivots, or none given where it is empty, over a file of these bytes: the
+/// status's number and what was written.
+fn solved_with(
+    alloc: Global,
+    options: &[&str],
+    limit: &str,
+    bytes: &[u8],
+) -> Result<(u8, Vec<u8>), Fail> {
     let mut shelf = MemoryShelf::new(alloc, 1 << 20, &[])?;
     shelf.add(alloc, word(alloc, "m.mps")?, bytes)?;
     let mut out = MemorySink::new(alloc, 1 << 20, 1 << 20, &[])?;
     let mut words = words(alloc, &["solve", "m.mps"])?;
+    for option in options {
+        words.push(word(alloc, option)?)?;
+    }
     if !limit.is_empty() {
         words.push(word(alloc, "--limit")?)?;
         words.push(word(alloc, limit)?)?;
     }
     let status = run_plain(alloc, words.as_slice(), &mut shelf, &mut out);
     Ok((status.code(), out.bytes().to_vec(alloc)?))
+}
+
+/// The same without further options.
+fn solved(alloc: Global, limit: &str, bytes: &[u8]) -> Result<(u8, Vec<u8>), Fail> {
+    solved_with(alloc, &[], limit, bytes)
 }
 
 /// Is each of these files answered with its status and its text, with this limit of pivots?
@@ -188,13 +202,13 @@ fn answers_behind_phase_one(rt: HostRuntime) -> Result<(), Fail> {
             (
                 RISING,
                 0,
-                "pami 1|model 2 1 2|phase 1|major 1 full 0|pivot 1 0 r:c1 U x:x 1|phase 2|major 2 full 1|pivot 2 1 r:c2 U r:c1 1|answer optimal|certificate 1 optimal|objective 2|x x 2 0|r c1 2 0|r c2 2 -1|end|basis B BU|",
+                "pami 1|model 2 1 2|phase 1|major 1 full 0 1|pivot 1 0 r:c1 U x:x 1|drop 1|phase 2|major 2 full 1|pivot 2 1 r:c2 U r:c1 1|answer optimal|certificate 1 optimal|objective 2|x x 2 0|r c1 2 0|r c2 2 -1|end|basis B BU|",
             ),
             // A cost above 0 with no lower bound; behind the switch a, which is to be at most -3, is 6.
             (
                 "NAME T|ROWS| N COST| E e1| E e2| L l1|COLUMNS| a COST 1 e1 1| a e2 1 l1 1| b l1 1|RHS| e1 10 e2 10| l1 7|RANGES| RNG e1 -4 e2 0|BOUNDS| UP BND a -3| MI b|ENDATA|",
                 10,
-                "pami 1|model 3 2 4|phase 1|major 1 full 0|pivot 1 0 r:e1 L x:a 1|phase 2|major 2 full 0|none 0 x:a|answer infeasible|certificate 1 infeasible|r e1 1|r e2 0|r l1 0|end|",
+                "pami 1|model 3 2 4|phase 1|major 1 full 0 1 2|pivot 1 0 r:e1 L x:a 1|drop 1|drop 2|phase 2|major 2 full 0 1|none 0 x:a|answer infeasible|certificate 1 infeasible|r e1 1|r e2 0|r l1 0|end|",
             ),
         ],
     )?;
@@ -205,7 +219,7 @@ fn answers_behind_phase_one(rt: HostRuntime) -> Result<(), Fail> {
         &[(
             RISING,
             12,
-            "pami 1|model 2 1 2|phase 1|major 1 full 0|pivot 1 0 r:c1 U x:x 1|phase 2|answer limit 1|basis B UB|",
+            "pami 1|model 2 1 2|phase 1|major 1 full 0 1|pivot 1 0 r:c1 U x:x 1|phase 2|answer limit 1|basis B UB|",
         )],
     )?;
     are_answered(
@@ -343,33 +357,33 @@ fn answers_behind_pivots(rt: HostRuntime) -> Result<(), Fail> {
             TWO_ROWS,
             "",
             0,
-            "pami 1|model 2 1 2|phase 2|major 1 full 0|pivot 1 0 r:c1 L x:x 1/10|major 2 full 1|pivot 2 1 r:c2 L r:c1 1|answer optimal|certificate 1 optimal|objective 6|x x 6 0|r c1 60 0|r c2 6 1|end|basis B BL|",
+            "pami 1|model 2 1 2|phase 2|major 1 full 0 1|pivot 1 0 r:c1 L x:x 1/10|pivot 2 1 r:c2 L r:c1 1|answer optimal|certificate 1 optimal|objective 6|x x 6 0|r c1 60 0|r c2 6 1|end|basis B BL|",
         ),
         // The limit is met between two pivots, and with the last one it isn't.
         (
             TWO_ROWS,
             "1",
             12,
-            "pami 1|model 2 1 2|phase 2|major 1 full 0|pivot 1 0 r:c1 L x:x 1/10|answer limit 1|basis B LB|",
+            "pami 1|model 2 1 2|phase 2|major 1 full 0 1|pivot 1 0 r:c1 L x:x 1/10|answer limit 1|basis B LB|",
         ),
         (
             TWO_ROWS,
             "2",
             0,
-            "pami 1|model 2 1 2|phase 2|major 1 full 0|pivot 1 0 r:c1 L x:x 1/10|major 2 full 1|pivot 2 1 r:c2 L r:c1 1|answer optimal|certificate 1 optimal|objective 6|x x 6 0|r c1 60 0|r c2 6 1|end|basis B BL|",
+            "pami 1|model 2 1 2|phase 2|major 1 full 0 1|pivot 1 0 r:c1 L x:x 1/10|pivot 2 1 r:c2 L r:c1 1|answer optimal|certificate 1 optimal|objective 6|x x 6 0|r c1 60 0|r c2 6 1|end|basis B BL|",
         ),
-        // An operation doesn't fit: the Full major is rolled back, and the Single one ends the walk.
+        // An operation doesn't fit: a Full major is rolled back, and a Single one is kept, or ends the walk.
         (
             SMALL_ENTRY,
             "",
             13,
-            "pami 1|model 2 1 2|phase 2|major 1 full 0|pivot 1 0 r:c1 L x:x 1/10|rollback 2 factor div 1/100000000000000000000000000000000000000 10|answer overflow factor div 1/100000000000000000000000000000000000000 10|",
+            "pami 1|model 2 1 2|phase 2|rollback 1 reach-1-1 div -1/100000000000000000000000000000000000000 -10|major 2 single 0|pivot 1 0 r:c1 L x:x 1/10|rollback 3 backward-1 div 1/100000000000000000000000000000000000000 -10|answer overflow factor div 1/100000000000000000000000000000000000000 10|",
         ),
         (
             SMALL_ENTRY,
             "1",
             12,
-            "pami 1|model 2 1 2|phase 2|major 1 full 0|pivot 1 0 r:c1 L x:x 1/10|answer limit 1|basis B LB|",
+            "pami 1|model 2 1 2|phase 2|rollback 1 reach-1-1 div -1/100000000000000000000000000000000000000 -10|major 2 single 0|pivot 1 0 r:c1 L x:x 1/10|answer limit 1|basis B LB|",
         ),
         // A row leaves to its upper bound; two rows exclude each other behind a pivot.
         (
@@ -387,6 +401,43 @@ fn answers_behind_pivots(rt: HostRuntime) -> Result<(), Fail> {
     ];
     for (file, limit, status, text) in rows {
         let (code, written) = solved(alloc, limit, lines(alloc, file)?.as_slice())?;
+        assert_eq!(rt; code, status, "status of {file}");
+        assert!(rt;
+            written.as_slice() == lines(alloc, text)?.as_slice(),
+            "text of {file}"
+        );
+    }
+    Ok(())
+}
+
+/// One row a major, and a new elimination in each.
+#[test]
+fn answers_one_row_at_a_time(rt: HostRuntime) -> Result<(), Fail> {
+    let alloc = rt.alloc();
+    let options = ["--batch", "1", "--refactor=0"];
+    let rows = [
+        (
+            TWO_ROWS,
+            "",
+            0,
+            "pami 1|model 2 1 2|phase 2|major 1 full 0|pivot 1 0 r:c1 L x:x 1/10|major 2 full 1|pivot 2 1 r:c2 L r:c1 1|answer optimal|certificate 1 optimal|objective 6|x x 6 0|r c1 60 0|r c2 6 1|end|basis B BL|",
+        ),
+        (
+            TWO_ROWS,
+            "1",
+            12,
+            "pami 1|model 2 1 2|phase 2|major 1 full 0|pivot 1 0 r:c1 L x:x 1/10|answer limit 1|basis B LB|",
+        ),
+        (
+            SMALL_ENTRY,
+            "",
+            13,
+            "pami 1|model 2 1 2|phase 2|major 1 full 0|pivot 1 0 r:c1 L x:x 1/10|rollback 2 factor div 1/100000000000000000000000000000000000000 10|answer overflow factor div 1/100000000000000000000000000000000000000 10|",
+        ),
+    ];
+    for (file, limit, status, text) in rows {
+        let bytes = lines(alloc, file)?;
+        let (code, written) = solved_with(alloc, &options, limit, bytes.as_slice())?;
         assert_eq!(rt; code, status, "status of {file}");
         assert!(rt;
             written.as_slice() == lines(alloc, text)?.as_slice(),
@@ -519,7 +570,12 @@ fn a_row_may_be_too_wide(rt: HostRuntime) -> Result<(), Fail> {
     };
     builder.add_row(b"r", bounds).ok().ok_or("a row")?;
     let model = builder.finish().ok().ok_or("a model")?;
-    let answer = model_answer(alloc, &model, 0)?;
+    let options = Options {
+        batch: 4,
+        refactor: 16,
+        limit: 0,
+    };
+    let answer = model_answer(alloc, &model, options)?;
     assert_eq!(rt; answer.status, Status::File);
     assert_eq!(rt; answer.text.as_slice(), b"refused 0 width r:r\n".as_slice());
     Ok(())

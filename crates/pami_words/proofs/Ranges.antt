@@ -1,9 +1,11 @@
 -- The numbers of options are in their ranges.
-use Rattle.std.proofs.Common.{◌≡◌, ℕ, ◌≤◌, Bool, true, false, cond, List, [], ◌∷◌, length, Option, None, Some, Result, Ok, Err, refl, sym, arith, nat_le, leb-true, subst}
+use Rattle.std.proofs.Common.{◌≡◌, ℕ, ◌≤◌, Bool, true, false, cond, List, [], ◌∷◌, length, Option, None, Some, Result, Ok, Err, refl, sym, arith, nat_le, leb-true, subst, ◌∙◌}
 use Rattle.std.specs.Prelude.{◌&&◌, option_and_then, option_map, slice_get, IfOk}
 use Rattle.pami_frac.specs.declared.fault.Fault.{Fault}
 use Rattle.pami_frac.specs.Answers.{FollowsBy}
 use Rattle.pami_frac.specs.Decimal.{are_digits, number_after, before, onward}
+use Rattle.pami_method.specs.declared.words.Options.{Options}
+use Rattle.pami_method.specs.Walk.{IsOptions}
 use Rattle.pami_words.specs.declared.command.BadWords.{BadWords}
 use Rattle.pami_words.specs.declared.command.Command.{Command}
 use Rattle.pami_words.specs.declared.command.Command.TheVariants.{Solve, Check}
@@ -20,11 +22,11 @@ use Rattle.pami_words.specs.declared.table.Takes.TheVariants as takes
 use Rattle.pami_words.specs.declared.value.FileFormat.{FileFormat}
 use Rattle.pami_words.specs.declared.value.Value.{Value}
 use Rattle.pami_words.specs.declared.value.Value.TheVariants as values
-use Rattle.pami_words.specs.Table.{commands, command_row, command_named, option_row, option_named, greatest_limit, default_limit}
+use Rattle.pami_words.specs.Table.{commands, command_row, command_named, option_row, option_named, is_option, greatest_batch, greatest_refactor, greatest_limit, default_batch, default_refactor, default_limit}
 use Rattle.pami_words.specs.Numbers.{number_in, number_between}
 use Rattle.pami_words.specs.Values.{format_named, value_in}
 use Rattle.pami_words.specs.Items.{or_bad, is_end, is_plain, is_equals, given, option_valued, option_alone, option_taking, option_with, option_reading, reading_of, in_front, all_plain, last_item, first_item, items_of}
-use Rattle.pami_words.specs.Words.{values_of, are_for, word_at, first_value, number_or, lp_or, asked_by, command_by, command_of, read_outcome, IsInRange}
+use Rattle.pami_words.specs.Words.{values_of, are_for, word_at, first_value, number_or, lp_or, options_asked, asked_by, command_by, command_of, read_outcome, IsInRange}
 use Rattle.pami_words.proofs.Steps.{or_bad_some, some_same}
 
 -- ---- one number
@@ -177,40 +179,68 @@ items_taken options (word ∷ next ∷ words) =
 
 -- ---- commands
 
--- a value that is a number is at most the greatest limit
-abbrev IsSmall : Value → Type 0
-IsSmall values.Nothing = Unit {0}
-IsSmall (values.Number n) = n ≤ greatest_limit
-IsSmall (values.Format f) = Unit {0}
+-- a value that is a number is in this range
+abbrev IsBetween : ℕ → ℕ → Value → Type 0
+IsBetween least greatest values.Nothing = Unit {0}
+IsBetween least greatest (values.Number n) = (least ≤ n) × (n ≤ greatest)
+IsBetween least greatest (values.Format f) = Unit {0}
 
-abbrev AreSmall : List Value → Type 0
-AreSmall [] = Unit {0}
-AreSmall (v ∷ vs) = IsSmall v × AreSmall vs
+abbrev AreBetween : ℕ → ℕ → List Value → Type 0
+AreBetween least greatest [] = Unit {0}
+AreBetween least greatest (v ∷ vs) = IsBetween least greatest v × AreBetween least greatest vs
 
-limit_small : (v : Value) → IsTaken (takes.Number 0 greatest_limit) v → IsSmall v
-limit_small values.Nothing h = tt
-limit_small (values.Number n) h = h.1
-limit_small (values.Format f) h = tt
+taken_between : (least greatest : ℕ) (v : Value) → IsTaken (takes.Number least greatest) v → IsBetween least greatest v
+taken_between least greatest values.Nothing h = tt
+taken_between least greatest (values.Number n) h = h
+taken_between least greatest (values.Format f) h = tt
 
-limits_small : (items : List Item) → AreTaken items → AreSmall (values_of options.Limit items)
-limits_small [] h = tt
-limits_small (Plain word ∷ items) h = limits_small items h.1
-limits_small (Given options.Limit v ∷ items) h = (limit_small v h.0, limits_small items h.1)
-limits_small (Given options.Format v ∷ items) h = limits_small items h.1
+-- options with the same word take the same
+same_takes : (option other : OptionName) → is_option option other ≡ true → (option_row other).takes ≡ (option_row option).takes
+same_takes options.Format options.Format e = refl
+same_takes options.Batch options.Batch e = refl
+same_takes options.Refactor options.Refactor e = refl
+same_takes options.Limit options.Limit e = refl
+same_takes option other e = absurd (cc)
 
-head_small : (vs : List Value) → AreSmall vs → number_or default_limit (slice_get vs 0) ≤ greatest_limit
-head_small [] h = omega arith
-head_small (values.Nothing ∷ vs) h = omega arith
-head_small (values.Number n ∷ vs) h = h.0
-head_small (values.Format f ∷ vs) h = omega arith
+values_between : (option : OptionName) (least greatest : ℕ) (items : List Item) → (option_row option).takes ≡ takes.Number least greatest → AreTaken items →
+    AreBetween least greatest (values_of option items)
+values_between option least greatest [] t h = tt
+values_between option least greatest (Plain word ∷ items) t h = values_between option least greatest items t h.1
+values_between option least greatest (Given other v ∷ items) t h =
+    go (is_option option other) (same_takes option other) (values_between option least greatest items t h.1)
+  where
+    go : (b : Bool) → (b ≡ true → (option_row other).takes ≡ (option_row option).takes) → AreBetween least greatest (values_of option items) →
+        AreBetween least greatest (cond b (v ∷ values_of option items) (values_of option items))
+    go true same later = (taken_between least greatest v (subst (λ u. IsTaken u v) (same refl ∙ t) h.0), later)
+    go false same later = later
+
+head_between : (default least greatest : ℕ) (vs : List Value) → (least ≤ default) × (default ≤ greatest) → AreBetween least greatest vs →
+    (least ≤ number_or default (slice_get vs 0)) × (number_or default (slice_get vs 0) ≤ greatest)
+head_between default least greatest [] d h = d
+head_between default least greatest (values.Nothing ∷ vs) d h = d
+head_between default least greatest (values.Number n ∷ vs) d h = h.0
+head_between default least greatest (values.Format f ∷ vs) d h = d
+
+options_between : (items : List Item) → AreTaken items → IsOptions (options_asked items)
+options_between items h =
+    let batch = head_between default_batch 1 greatest_batch (values_of options.Batch items) (omega arith, omega arith)
+    (values_between options.Batch 1 greatest_batch items refl h) in
+    record {
+      some_row = batch.0;
+      batch = batch.1;
+      refactor = (head_between default_refactor 0 greatest_refactor (values_of options.Refactor items) (omega arith, omega arith)
+          (values_between options.Refactor 0 greatest_refactor items refl h)).1;
+      limit = (head_between default_limit 0 greatest_limit (values_of options.Limit items) (omega arith, omega arith)
+          (values_between options.Limit 0 greatest_limit items refl h)).1;
+    }
 
 abbrev OneInRange : Option Command → Type 0
 OneInRange None = Unit {0}
 OneInRange (Some command) = IsInRange command
 
-solve_in_range : (file : Option (List ℕ)) (lp : List ℕ → Bool) (limit : ℕ) → limit ≤ greatest_limit → OneInRange (option_map (λ f. Solve f (lp f) limit) file)
-solve_in_range None lp limit h = tt
-solve_in_range (Some file) lp limit h = h
+solve_in_range : (file : Option (List ℕ)) (lp : List ℕ → Bool) (o : Options) → IsOptions o → OneInRange (option_map (λ f. Solve f (lp f) o) file)
+solve_in_range None lp o h = tt
+solve_in_range (Some file) lp o h = h
 
 check_in_range : (file cert : Option (List ℕ)) (lp : List ℕ → Bool) →
     OneInRange (option_and_then (λ f. option_map (λ c. Check f c (lp f)) cert) file)
@@ -220,8 +250,7 @@ check_in_range (Some file) (Some cert) lp = tt
 
 asked_in_range : (name : CommandName) (items : List Item) → AreTaken items → OneInRange (asked_by name items)
 asked_in_range names.Solve items h =
-    solve_in_range (word_at 0 items) (λ f. lp_or f (first_value options.Format items)) (number_or default_limit (first_value options.Limit items))
-    (head_small (values_of options.Limit items) (limits_small items h))
+    solve_in_range (word_at 0 items) (λ f. lp_or f (first_value options.Format items)) (options_asked items) (options_between items h)
 asked_in_range names.Check items h =
     check_in_range (word_at 0 items) (word_at 1 items) (λ f. lp_or f (first_value options.Format items))
 

@@ -1,15 +1,21 @@
 -- The table of words: the commands, the options, and how each is called.
 use Rattle.std.specs.Prelude.{ℕ, Bool, List, [], ◌∷◌, Option, None, Some, codes, if◌then◌else◌}
 use Rattle.std.specs.Str.{bytes_eq}
-pub use Rattle.pami_method.specs.Walk.{greatest_limit}
+pub use Rattle.pami_method.specs.Walk.{greatest_batch, greatest_refactor, greatest_limit}
 use Rattle.pami_words.specs.declared.table.CommandName.{CommandName}
 use Rattle.pami_words.specs.declared.table.CommandName.TheVariants.{Solve, Check}
 use Rattle.pami_words.specs.declared.table.OptionName.{OptionName}
-use Rattle.pami_words.specs.declared.table.OptionName.TheVariants.{Limit, Format}
+use Rattle.pami_words.specs.declared.table.OptionName.TheVariants.{Format, Batch, Refactor, Limit}
 use Rattle.pami_words.specs.declared.table.Takes.{Takes}
 use Rattle.pami_words.specs.declared.table.Takes.TheVariants as takes
 
--- the limit of pivots where none is given
+-- the most rows of a batch, the most pivots that a factor is kept for, and the limit of pivots, where none is given
+abbrev pub default_batch : ℕ
+default_batch = 4
+
+abbrev pub default_refactor : ℕ
+default_refactor = 16
+
 abbrev pub default_limit : ℕ
 default_limit = 100000
 
@@ -32,12 +38,14 @@ commands = Solve ∷ Check ∷ []
 
 -- the row of a command
 abbrev pub command_row : CommandName → CommandRow
-command_row Solve = record { word = codes "solve"; plain = 1; options = Format ∷ Limit ∷ [] }
+command_row Solve = record { word = codes "solve"; plain = 1; options = Format ∷ Batch ∷ Refactor ∷ Limit ∷ [] }
 command_row Check = record { word = codes "check"; plain = 2; options = Format ∷ [] }
 
 -- the row of an option
 abbrev pub option_row : OptionName → OptionRow
 option_row Format = record { word = codes "--format"; takes = takes.Format }
+option_row Batch = record { word = codes "--batch"; takes = takes.Number 1 greatest_batch }
+option_row Refactor = record { word = codes "--refactor"; takes = takes.Number 0 greatest_refactor }
 option_row Limit = record { word = codes "--limit"; takes = takes.Number 0 greatest_limit }
 
 -- ---- rows by their words

@@ -4,6 +4,8 @@
 -- plain words the command takes, and which options, each at most once. No word asks for help or the version.
 use Rattle.std.specs.Prelude.{ℕ, ◌-◌, ◌≤◌, Bool, true, ◌&&◌, List, [], ◌∷◌, length, drop, codes, Option, None, Some, option_map, option_and_then, Result, if◌then◌else◌, nat_eq, nat_le, slice_get}
 use Rattle.std.specs.Str.{str_eq_ignore_ascii_case}
+use Rattle.pami_method.specs.declared.words.Options.{Options}
+use Rattle.pami_method.specs.Walk.{IsOptions}
 use Rattle.pami_words.specs.declared.command.BadWords.{BadWords}
 use Rattle.pami_words.specs.declared.command.Command.{Command}
 use Rattle.pami_words.specs.declared.command.Command.TheVariants.{Solve, Check}
@@ -16,7 +18,7 @@ use Rattle.pami_words.specs.declared.table.OptionName.TheVariants as options
 use Rattle.pami_words.specs.declared.value.Value.{Value}
 use Rattle.pami_words.specs.declared.value.Value.TheVariants.{Nothing, Number, Format}
 use Rattle.pami_words.specs.Values.{is_lp}
-use Rattle.pami_words.specs.Table.{CommandRow, commands, command_row, command_named, is_option, default_limit, greatest_limit}
+use Rattle.pami_words.specs.Table.{CommandRow, commands, command_row, command_named, is_option, default_batch, default_refactor, default_limit}
 use Rattle.pami_words.specs.Items.{or_bad, items_of}
 
 -- ---- what items are given
@@ -70,10 +72,18 @@ lp_or name (Some Nothing) = is_lp_name name
 lp_or name (Some (Number number)) = is_lp_name name
 lp_or name (Some (Format format)) = is_lp format
 
--- `solve` takes FILE, its format and the limit of pivots
+-- the options of a run, each its default where it isn't given
+abbrev pub options_asked : List Item → Options
+options_asked items = record {
+  batch = number_or default_batch (first_value options.Batch items);
+  refactor = number_or default_refactor (first_value options.Refactor items);
+  limit = number_or default_limit (first_value options.Limit items);
+}
+
+-- `solve` takes FILE, its format and the options of its run
 abbrev pub solve_asked : List Item → Option Command
 solve_asked items =
-    option_map (λ file. Solve file (lp_or file (first_value options.Format items)) (number_or default_limit (first_value options.Limit items)))
+    option_map (λ file. Solve file (lp_or file (first_value options.Format items)) (options_asked items))
     (word_at 0 items)
 
 -- `check` takes FILE, its format, and CERT, the second of the plain words
@@ -100,5 +110,5 @@ read_outcome (word ∷ words) = or_bad (option_and_then (command_of words) (comm
 
 -- what is asked is in its range
 abbrev pub IsInRange : Command → Type 0
-IsInRange (Solve file lp limit) = limit ≤ greatest_limit
+IsInRange (Solve file lp options) = IsOptions options
 IsInRange (Check file cert lp) = Unit {0}

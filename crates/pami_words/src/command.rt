@@ -2,17 +2,25 @@
 
 use pami_edge::Word;
 use pami_frac::Fault;
+use pami_method::Options;
 use thiserror::Error;
 
 /// A command with what it is given.
 #[derive(Debug, Drop)]
 pub enum Command {
-    /// Solve the model of FILE, which is in the CPLEX LP format where `lp` says so and else in MPS, with at most `limit`
-    /// pivots.
-    Solve { file: Word, lp: bool, limit: u32 },
+    /// Solve the model of FILE, which is in the CPLEX LP format where `lp` says so and else in MPS, with these options.
+    Solve {
+        file: Word,
+        lp: bool,
+        options: Options,
+    },
     /// Check the certificate of CERT against the model of FILE, which is in the CPLEX LP format where `lp` says so and
     /// else in MPS.
-    Check { file: Word, cert: Word, lp: bool },
+    Check {
+        file: Word,
+        cert: Word,
+        lp: bool,
+    },
 }
 
 /// The words stand in no row of the table.

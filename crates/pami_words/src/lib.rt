@@ -10,7 +10,7 @@
 //! /// The name of the model file that the words ask for.
 //! fn model_file(alloc: Global, words: &[Word]) -> Result<Word, Fault<BadWords>> {
 //!     match read_words(alloc, words)? {
-//!         Command::Solve { file, lp: _, limit: _ } => Ok(file),
+//!         Command::Solve { file, lp: _, options: _ } => Ok(file),
 //!         Command::Check { file, cert: _, lp: _ } => Ok(file),
 //!     }
 //! }
@@ -26,7 +26,7 @@ mod value;
 
 pub use command::{BadWords, Command};
 pub use read::read_words;
-pub use table::DEFAULT_LIMIT;
+pub use table::{DEFAULT_BATCH, DEFAULT_LIMIT, DEFAULT_REFACTOR};
 
 #[cfg(test)]
 mod tests;

@@ -9,10 +9,13 @@ ghost use Rattle.pami_words.specs.Words as asked;
 
 use crate::command::{BadWords, Command};
 use crate::item::{Item, Reading, given, reading_of};
-use crate::table::{CommandName, DEFAULT_LIMIT, OptionName, Takes};
+use crate::table::{
+    CommandName, DEFAULT_BATCH, DEFAULT_LIMIT, DEFAULT_REFACTOR, OptionName, Takes,
+};
 use crate::value::Value;
 use pami_edge::Word;
 use pami_frac::Fault;
+use pami_method::Options;
 use std::alloc::Global;
 
 /// An option with the first of these words as its value, and the words behind that one.
@@ -199,6 +202,17 @@ fn are_once(options: &[OptionName], items: &[Item]) -> bool
     true
 }
 
+/// The options of a run that these items give, each its default where it isn't given.
+fn options_asked(items: &[Item]) -> Options
+    ensures { result ≡ asked.options_asked items.now }
+{
+    Options {
+        batch: number_or(DEFAULT_BATCH, first_value(items, OptionName::Batch)),
+        refactor: number_or(DEFAULT_REFACTOR, first_value(items, OptionName::Refactor)),
+        limit: number_or(DEFAULT_LIMIT, first_value(items, OptionName::Limit)),
+    }
+}
+
 /// What `solve` is asked by items that are its own.
 ///
 /// # Errors
@@ -211,7 +225,7 @@ fn solve_asked(alloc: Global, items: &[Item]) -> Result<Command, Fault<BadWords>
     Ok(Command::Solve {
         file: file.copy(alloc)?,
         lp: lp_or(file.as_slice(), first_value(items, OptionName::Format)),
-        limit: number_or(DEFAULT_LIMIT, first_value(items, OptionName::Limit)),
+        options: options_asked(items),
     })
 }
 

@@ -3,7 +3,13 @@
 ghost use Rattle.std.specs.Prelude.{◌≡◌};
 ghost use Rattle.pami_words.specs.Table as table;
 
-use pami_method::GREATEST_LIMIT;
+use pami_method::{GREATEST_BATCH, GREATEST_LIMIT, GREATEST_REFACTOR};
+
+/// The most rows of a batch where none is given.
+pub const DEFAULT_BATCH: u32 = 4;
+
+/// The most pivots that a factor is kept for where none is given.
+pub const DEFAULT_REFACTOR: u32 = 16;
 
 /// The limit of pivots where none is given.
 pub const DEFAULT_LIMIT: u32 = 100_000;
@@ -19,6 +25,8 @@ pub enum CommandName {
 #[derive(Clone, Copy, Debug, PartialEq, Eq)]
 pub enum OptionName {
     Format,
+    Batch,
+    Refactor,
     Limit,
 }
 
@@ -37,7 +45,12 @@ pub enum Takes {
 const COMMANDS: [CommandName; 2] = [CommandName::Solve, CommandName::Check];
 
 /// The options of `solve`.
-const SOLVE_OPTIONS: [OptionName; 2] = [OptionName::Format, OptionName::Limit];
+const SOLVE_OPTIONS: [OptionName; 4] = [
+    OptionName::Format,
+    OptionName::Batch,
+    OptionName::Refactor,
+    OptionName::Limit,
+];
 
 /// The options of `check`.
 const CHECK_OPTIONS: [OptionName; 1] = [OptionName::Format];
@@ -100,6 +113,8 @@ impl OptionName {
     {
         match self {
             OptionName::Format => b"--format",
+            OptionName::Batch => b"--batch",
+            OptionName::Refactor => b"--refactor",
             OptionName::Limit => b"--limit",
         }
     }
@@ -110,6 +125,14 @@ impl OptionName {
     {
         match self {
             OptionName::Format => Takes::Format,
+            OptionName::Batch => Takes::Number {
+                least: 1,
+                greatest: GREATEST_BATCH,
+            },
+            OptionName::Refactor => Takes::Number {
+                least: 0,
+                greatest: GREATEST_REFACTOR,
+            },
             OptionName::Limit => Takes::Number {
                 least: 0,
                 greatest: GREATEST_LIMIT,

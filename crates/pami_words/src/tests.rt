@@ -24,7 +24,7 @@ fn model_file(alloc: Global, words: &[Word]) -> Result<Word, Fault<BadWords>> {
         Command::Solve {
             file,
             lp: _,
-            limit: _,
+            options: _,
         } => Ok(file),
         Command::Check {
             file,
@@ -84,14 +84,66 @@ fn words_of_solve(rt: HostRuntime) -> Result<(), Fail> {
             Command::Solve {
                 file: name,
                 lp: _,
-                limit: most,
+                options,
             },
         ) = read_words(alloc, words.as_slice())
         else {
             return Err(Fail::from("words of the table"));
         };
         assert!(rt; name.is(file.as_bytes()), "FILE {file}");
-        assert_eq!(rt; most, limit, "limit of {file}");
+        assert_eq!(rt; options.limit, limit, "limit of {file}");
+        assert_eq!(rt; options.batch, DEFAULT_BATCH, "batch of {file}");
+        assert_eq!(rt; options.refactor, DEFAULT_REFACTOR, "refactor of {file}");
+    }
+    Ok(())
+}
+
+/// The numbers of all options, in both spellings and in any order: the rows of a batch, the pivots that a factor is kept for
+/// and the limit of pivots.
+#[test]
+fn options_of_solve(rt: HostRuntime) -> Result<(), Fail> {
+    let alloc = rt.alloc();
+    let rows: [(&[&str], [u32; 3]); 8] = [
+        (&["solve", "m.mps"], [4, 16, 100_000]),
+        (&["solve", "m.mps", "--batch", "1"], [1, 16, 100_000]),
+        (&["solve", "--batch=8", "m.mps"], [8, 16, 100_000]),
+        (&["solve", "m.mps", "--refactor", "0"], [4, 0, 100_000]),
+        (&["solve", "--refactor=64", "m.mps"], [4, 64, 100_000]),
+        (
+            &["solve", "--batch", "1", "--refactor", "0", "m.mps"],
+            [1, 0, 100_000],
+        ),
+        (
+            &[
+                "solve",
+                "--limit=7",
+                "m.mps",
+                "--refactor=5",
+                "--batch",
+                "03",
+            ],
+            [3, 5, 7],
+        ),
+        (
+            &["solve", "--batch=2", "--limit", "0", "--", "--batch=2"],
+            [2, 16, 0],
+        ),
+    ];
+    for (texts, [batch, refactor, limit]) in rows {
+        let words = words(alloc, texts)?;
+        let Ok(
+            Command::Solve {
+                file: _,
+                lp: _,
+                options,
+            },
+        ) = read_words(alloc, words.as_slice())
+        else {
+            return Err(Fail::from("words of the table"));
+        };
+        assert_eq!(rt; options.batch, batch);
+        assert_eq!(rt; options.refactor, refactor);
+        assert_eq!(rt; options.limit, limit);
     }
     Ok(())
 }
@@ -123,7 +175,7 @@ fn formats_of_solve(rt: HostRuntime) -> Result<(), Fail> {
             Command::Solve {
                 file: _,
                 lp,
-                limit: _,
+                options: _,
             },
         ) = read_words(alloc, words.as_slice())
         else {
@@ -184,7 +236,7 @@ fn words_of_check(rt: HostRuntime) -> Result<(), Fail> {
 #[test]
 fn words_outside_the_table(rt: HostRuntime) -> Result<(), Fail> {
     let alloc = rt.alloc();
-    let rows: [&[&str]; 70] = [
+    let rows: [&[&str]; 80] = [
         &[],
         &["solve"],
         &["m.mps"],
@@ -231,6 +283,17 @@ fn words_outside_the_table(rt: HostRuntime) -> Result<(), Fail> {
         &["solve", "m.mps", "--limit=1000001"],
         &["solve", "m.mps", "--limit", "4294967301"],
         &["solve", "m.mps", "--limit", "9999999999"],
+        // The batch and the refactor number: twice, without a value, out of their ranges, and not of `check`.
+        &["solve", "m.mps", "--batch", "0"],
+        &["solve", "m.mps", "--batch=9"],
+        &["solve", "m.mps", "--batch"],
+        &["solve", "m.mps", "--batch=4", "--batch", "4"],
+        &["solve", "m.mps", "--refactor", "65"],
+        &["solve", "m.mps", "--refactor="],
+        &["solve", "m.mps", "--refactor", "-1"],
+        &["solve", "m.mps", "--refactor=1", "--refactor=1"],
+        &["check", "m.mps", "c", "--batch", "4"],
+        &["check", "m.mps", "c", "--refactor=16"],
         // The format: none, twice, another word, or in capitals.
         &["solve", "m.lp", "--format"],
         &["solve", "m.lp", "--format="],

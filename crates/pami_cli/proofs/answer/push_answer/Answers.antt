@@ -15,7 +15,7 @@ values-requires-clause-values c =
     let m = contents c.args.model.now in
     let f = model_form m in
     let st = c.in-Optimal.state in
-    read_values f c.args.form.now.bounds st (model_bounds m c.args.form.now c.requires.form) (optimal_read f st (subst (IsReadable f) c.in-Optimal.is c.requires.readable))
+    read_values f c.args.form.now.bounds st (model_bounds m c.args.form.now c.requires.form) (optimal_read f st c.in-Optimal.factor (subst (IsReadable f) c.in-Optimal.is c.requires.readable))
 
 pub values-requires-clause-basis : goal.values-requires-clause-basis
 values-requires-clause-basis c =
@@ -23,7 +23,7 @@ values-requires-clause-basis c =
     let f = model_form m in
     let st = c.in-Optimal.state in
     read_basis f c.as_slice.result.now st (subst (HasBounds f) (sym c.as_slice.ensures) (model_bounds m c.args.form.now c.requires.form))
-    (optimal_read f st (subst (IsReadable f) c.in-Optimal.is c.requires.readable))
+    (optimal_read f st c.in-Optimal.factor (subst (IsReadable f) c.in-Optimal.is c.requires.readable))
 
 pub values-requires-in-DualInfeasible-clause-values : goal.values-requires-in-DualInfeasible-clause-values
 values-requires-in-DualInfeasible-clause-values c =
@@ -49,7 +49,7 @@ returns-in_ok-values-in-Optimal-clause-lines c =
     let has = subst (HasBounds f) (sym c.as_slice.ensures) (model_bounds m c.args.form.now c.requires.form) in
     on_ok_weaker c.push_optimal.result
     (λ p. λ a l.
-    optimal_lines_are m c.args.out.now.items c.push_optimal.new.out.items st c.as_slice-in-Optimal.result.now (λ s. c.as_slice-in-Optimal.ensures ∙ c.in_ok-values-in-Optimal.ensures.solved f has s) p a
+    optimal_lines_are m c.args.out.now.items c.push_optimal.new.out.items st c.in-Optimal.factor c.as_slice-in-Optimal.result.now (λ s. c.as_slice-in-Optimal.ensures ∙ c.in_ok-values-in-Optimal.ensures.solved f has s) p a
     (subst (λ x. IsAnswerOf f x a) c.in-Optimal.is l))
     c.push_optimal.ensures.printed
 
@@ -76,7 +76,7 @@ returns-in_ok-values-in-Optimal-clause-certified c =
     let has = subst (HasBounds f) (sym c.as_slice.ensures) (model_bounds m c.args.form.now c.requires.form) in
     on_ok_weaker c.push_optimal.result
     (λ fits. λ a l.
-    optimal_certified m st c.as_slice-in-Optimal.result.now (λ s. c.as_slice-in-Optimal.ensures ∙ c.in_ok-values-in-Optimal.ensures.solved f has s)
+    optimal_certified m st c.in-Optimal.factor c.as_slice-in-Optimal.result.now (λ s. c.as_slice-in-Optimal.ensures ∙ c.in_ok-values-in-Optimal.ensures.solved f has s)
     (search rules) (search rules) fits a (subst (λ x. IsAnswerOf f x a) c.in-Optimal.is l))
     c.push_optimal.ensures.fits
 

@@ -4,7 +4,7 @@ use Rattle.pami_cli.proofs.Statuses.{optimal_status, infeasible_status, dual_inf
 use Rattle.pami_cli.proofs.answer.status_of.Goals as goal
 
 pub returns-in-Optimal : goal.returns-in-Optimal
-returns-in-Optimal c = λ f a l. optimal_status f c.in-Optimal.state a (subst (λ x. IsAnswerOf f x a) c.in-Optimal.is l)
+returns-in-Optimal c = λ f a l. optimal_status f c.in-Optimal.state c.in-Optimal.factor a (subst (λ x. IsAnswerOf f x a) c.in-Optimal.is l)
 
 pub returns-in-Infeasible : goal.returns-in-Infeasible
 returns-in-Infeasible c = λ f a l. infeasible_status f c.in-Infeasible.y a (subst (λ x. IsAnswerOf f x a) c.in-Infeasible.is l)

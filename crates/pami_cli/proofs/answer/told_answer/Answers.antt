@@ -4,13 +4,18 @@ use Rattle.pami_lines.specs.Line.{text}
 use Rattle.pami_text.specs.Record.{answer_lines}
 use Rattle.pami_model_form.specs.ModelForm.{model_form}
 use Rattle.pami_model_form.specs.Named.{named_of}
-use Rattle.pami_cli.proofs.Told.{told_run}
+use Rattle.pami_cli.proofs.Told.{told_run, told_sound}
 use Rattle.pami_cli.proofs.answer.told_answer.Goals as goal
 
-pub returns : goal.returns
-returns c =
+pub returns-clause-answer : goal.returns-clause-answer
+returns-clause-answer c =
     let m = contents c.args.model.now in
-    λ limit t.
-    told_run m c.args.form.now c.requires.form limit c.status_of.result c.push_answer.new.out.items c.args.answer.now c.args.events.now t (c.status_of.ensures (model_form m) t.given t.is)
+    λ options t.
+    told_run m c.args.form.now c.requires.form options c.status_of.result c.push_answer.new.out.items c.args.answer.now c.args.events.now t (c.status_of.ensures (model_form m) t.given t.is)
     (c.in_ok-push_answer.ensures.lines t.given t.is ∙ ap (λ z. z ++ text (answer_lines (named_of m) t.given)) c.in_ok-text.ensures)
-    (c.in_ok-push_answer.ensures.certified t.given t.is)
+
+pub returns-clause-sound : goal.returns-clause-sound
+returns-clause-sound c =
+    let m = contents c.args.model.now in
+    λ options t.
+    told_sound m c.args.form.now c.requires.form options c.args.answer.now c.args.events.now t (c.in_ok-push_answer.ensures.certified t.given t.is)
