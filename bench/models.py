@@ -1,4 +1,4 @@
-"""Transport models and random sparse models for solve.py.
+"""Transport models and random sparse models for solve.py and batch.py.
 
 All data are whole numbers, no cost is below 0, and each model has a feasible point by construction. A model depends on
 its numbers below alone, its seed among them. Run as a program, `models.py FOLDER` writes them all.
@@ -7,9 +7,10 @@ import random
 import sys
 
 # sources, sinks, seed
-TRANSPORTS = [(8, 12, 1), (15, 25, 2), (25, 35, 3), (30, 50, 4), (40, 60, 5)]
+TRANSPORTS = [(8, 12, 1), (15, 25, 2), (25, 35, 3), (30, 50, 4), (40, 60, 5), (30, 120, 6), (16, 240, 7)]
 # rows, columns, entries in each column, seed; with 8 entries in a column the numbers of a basis grow long
-SPARSE = [(20, 60, 3, 1), (40, 120, 3, 2), (40, 80, 8, 7), (60, 180, 3, 3), (60, 120, 8, 9), (80, 240, 3, 4), (100, 300, 3, 5)]
+SPARSE = [(20, 60, 3, 1), (40, 120, 3, 2), (40, 80, 8, 7), (60, 180, 3, 3), (60, 120, 8, 9), (80, 240, 3, 4), (100, 300, 3, 5),
+          (150, 300, 2, 6), (256, 512, 2, 8)]
 
 
 def text_of(name, rows, columns):
@@ -60,10 +61,12 @@ def sparse(count, width, entries, seed):
     return "sparse_%dx%d_%d" % (count, width, entries), rows, columns
 
 
-def write_all(folder):
-    """Writes each model to NAME.mps, and answers (name, rows, columns, entries) of each."""
+def write_all(folder, least=0):
+    """Writes each model of so many rows at least to NAME.mps, and answers (name, rows, columns, entries) of each."""
     written = []
     for name, rows, columns in [transport(*given) for given in TRANSPORTS] + [sparse(*given) for given in SPARSE]:
+        if len(rows) < least:
+            continue
         with open("%s/%s.mps" % (folder, name), "w") as file:
             file.write(text_of(name, rows, columns))
         written.append((name, len(rows), len(columns), sum(len(members) for _, _, members in columns)))

@@ -76,6 +76,15 @@ SMALL = "1/1" + 38 * "0"
 WIDE_TEXT = f"""pami 1
 model 2 1 2
 phase 2
+rollback 1 reach-1-1 div -{SMALL} -10
+major 2 single 0
+pivot 1 0 r:a L x:x 1/10
+rollback 3 backward-1 div {SMALL} -10
+answer overflow factor div {SMALL} 10
+"""
+WIDE_ALONE_TEXT = f"""pami 1
+model 2 1 2
+phase 2
 major 1 full 0
 pivot 1 0 r:a L x:x 1/10
 rollback 2 factor div {SMALL} 10
@@ -279,6 +288,9 @@ ROWS = [
     ("an option that isn't there", ["solve", "good.mps", "--help"], 2, BAD_WORDS),
     ("a format that isn't there", ["solve", "good.mps", "--format", "MPS"], 2, BAD_WORDS),
     ("a limit past the greatest", ["solve", "good.mps", "--limit", "1000001"], 2, BAD_WORDS),
+    ("a batch of no rows", ["solve", "good.mps", "--batch", "0"], 2, BAD_WORDS),
+    ("a batch past the greatest", ["solve", "good.mps", "--batch=9"], 2, BAD_WORDS),
+    ("a refactor number past the greatest", ["solve", "good.mps", "--refactor=65"], 2, BAD_WORDS),
     ("a word that is no UTF-8", ["solve", NO_TEXT], 2, BAD_WORDS),
     ("a word that is no UTF-8 behind a whole command", ["solve", "good.mps", NO_TEXT], 2, BAD_WORDS),
     ("a file of 16,777,216 bytes", ["solve", "longest.mps"], 0, GOOD_TEXT),
@@ -293,7 +305,14 @@ ROWS = [
     ("an infeasible answer behind flips", ["solve", "unreached.mps"], 10, UNREACHED_TEXT),
     ("the limit of pivots", ["solve", "good.mps", "--limit", "0"], 12, LIMIT_TEXT),
     ("the limit in one word", ["solve", "--limit=0", "good.mps"], 12, LIMIT_TEXT),
+    ("all options", ["solve", "--batch=1", "good.mps", "--refactor", "0", "--limit=0"], 12, LIMIT_TEXT),
     ("a number that doesn't fit", ["solve", "wide.mps"], 13, WIDE_TEXT),
+    (
+        "a number that doesn't fit, one row at a time",
+        ["solve", "wide.mps", "--batch=1", "--refactor=0"],
+        13,
+        WIDE_ALONE_TEXT,
+    ),
     ("a start that doesn't fit", ["solve", "start.mps"], 13, START_TEXT),
     ("a cost that falls without end", ["solve", "falling.mps"], 11, FALLING_TEXT),
     ("a certificate", ["check", "good.mps", "good.txt"], 0, "valid\n"),
@@ -314,6 +333,7 @@ ROWS = [
     ("a certificate of 16,777,217 bytes", ["check", "good.mps", "too_long.txt"], 22, "malformed 0 too-long\n"),
     ("a check without a certificate", ["check", "good.mps"], 2, BAD_WORDS),
     ("a check with a limit", ["check", "good.mps", "good.txt", "--limit", "1"], 2, BAD_WORDS),
+    ("a check with a batch", ["check", "good.mps", "good.txt", "--batch=4"], 2, BAD_WORDS),
     ("a certificate that isn't there", ["check", "good.mps", "missing.txt"], 4, READ_FAULT),
     ("a refused file before its certificate", ["check", "lp.txt", "missing.txt"], 3, "refused 1 section\n"),
     ("a width before a certificate", ["check", "wide_box.mps", "missing.txt"], 3, "refused 0 width x:x\n"),

@@ -2,8 +2,8 @@
 """Runs two programs on files drawn by draw_models.py or draw_faults.py and compares what they write and how they end.
 
 compare_answers.py PROGRAM REFERENCE --seed S --count N [--what models|faults|texts] [--jobs J]. PROGRAM and REFERENCE are
-commands, behind which the words `solve FILE --limit K` are put; both run in the folder of the files. `models` are drawn
-models, `faults` damaged files, and `texts` the texts of fault_texts.py, which need neither seed nor count. Standard output
+commands, behind which the words `solve FILE --limit K` are put, and with most files a batch, a refactor number or both; both run in
+the folder of the files. `models` are drawn models, `faults` damaged files, and `texts` the texts of fault_texts.py, which need neither seed nor count. Standard output
 and exit status must be the same, byte for byte, and some text must be there. Each difference is printed, the first few in
 full; then how often REFERENCE gave each kind of answer, and how often something else that is worth a count. Ends with 1
 where something differs.
@@ -29,10 +29,22 @@ SECONDS = 120
 IN_FULL = 5
 # How many pivots a damaged file is allowed that is a model all the same, and how much of a file is shown.
 FEW, SHOWN = 50, 4000
+# The options beside the limit, for one file after the other.
+OPTIONS = [
+    [],
+    ["--batch", "1", "--refactor", "0"],
+    ["--batch=8"],
+    ["--refactor", "0"],
+    ["--batch=2", "--refactor=1"],
+    ["--batch", "3", "--refactor", "64"],
+]
 # What is counted beside the kinds of answers, and how a text shows it.
 EVENTS = [
     ("with a rollback", r"^rollback "),
     ("with a major kept in the mode single", r"^major \d+ single"),
+    ("with two pivots in a major", r"^pivot .*\n(?:drop .*\n|flip .*\n)*pivot "),
+    ("with a row that is dropped", r"^drop "),
+    ("with no entering variable behind a pivot of the same major", r"^pivot .*\n(?:drop .*\n)*none "),
     ("with five pivots or more", r"^pivot 5 "),
     ("with a flip", r"^flip "),
     ("with three flips or more in one walk", r"(?:^flip .*\n){3}"),
@@ -130,7 +142,10 @@ def compare(program, reference, what, seed, count, jobs):
     kinds, events = collections.Counter(), collections.Counter()
     differences = 0
     with tempfile.TemporaryDirectory() as folder, concurrent.futures.ThreadPoolExecutor(jobs) as pool:
-        calls = [["solve", name, "--limit", str(limit)] for name, limit in files_of(what, seed, count, folder)]
+        files = files_of(what, seed, count, folder)
+        calls = [
+            ["solve", name, "--limit", str(limit), *OPTIONS[at % len(OPTIONS)]] for at, (name, limit) in enumerate(files)
+        ]
         pairs = pool.map(lambda words: (answer(program, words, folder), answer(reference, words, folder)), calls)
         for words, (given, due) in zip(calls, pairs):
             kinds[kind_of(*due[:2])] += 1

@@ -11,7 +11,7 @@ import pytest
 from conftest import TOP
 
 USAGE = """\
-usage: pami solve FILE [--format mps|lp] [--limit K]
+usage: pami solve FILE [--format mps|lp] [--batch S] [--refactor R] [--limit K]
        pami check FILE CERT [--format mps|lp]
 """
 # Says its words, each in a line, and ends with a status that ./pami doesn't have of its own.

@@ -25,7 +25,8 @@ def test_optimal(program: str, examples: Path) -> None:
     fat = result.rows[4]
     assert (fat.name, fat.value, fat.dual, fat.own_dual, fat.stand) == ("fat", 6, -10, -10, "U")
     assert result.pivots == 4
-    assert result.events[0] == pami.Phase(2)
+    assert result.events[:2] == (pami.Phase(2), pami.Major(1, "full", (0, 1, 2, 3)))
+    assert result.events[3:5] == (pami.Drop(1), pami.Drop(2))
     assert result.events[2] == pami.Pivot(1, 0, "r:energy", "L", "x:bread", Fraction(10))
     assert result.decimals(1)["milk"] == "1.5"
     assert pami.check(examples / "diet.mps", result, program=program).is_valid
@@ -91,6 +92,17 @@ def test_limit_and_overflow(program: str, examples: Path) -> None:
         wide.optimal()
     assert (caught.value.place, caught.value.op, caught.value.right) == ("factor", "div", 10)
     assert isinstance(wide.events[-1], pami.Rollback)
+
+
+def test_options(program: str, examples: Path) -> None:
+    """One row a major: another log, and the same plan."""
+    result = pami.solve(examples / "diet.mps", batch=1, refactor=0, program=program).optimal()
+    majors = [event.places for event in result.events if isinstance(event, pami.Major)]
+    assert majors == [(0,), (3,), (1,), (4,)]
+    assert result.objective == Fraction(455, 2)
+    for batch, refactor in ((0, 0), (9, 0), (1, 65)):
+        with pytest.raises(pami.BadWords, match="a batch is from 1 to 8"):
+            pami.solve(examples / "diet.mps", program=program, batch=batch, refactor=refactor)
 
 
 def test_wide_objective(program: str) -> None:

@@ -1,14 +1,16 @@
 """Exact linear programming from Python.
 
 `solve` calls the program pami on a model and reads its answer; `check` has the program judge a certificate; `verify`
-judges one here, with unbounded fractions and readers of its own; `sweep` solves many models. All numbers are
-`fractions.Fraction`. Errors are `PamiError`, each with its own name.
+judges one here, with unbounded fractions and readers of its own; `sweep` solves many models; `plot` draws a run, and
+`report` makes a page of an answer. All numbers are `fractions.Fraction`. Errors are `PamiError`, each with its own
+name.
 """
 
 from .answer import (
     Basis,
     Column,
     Conflict,
+    Drop,
     Event,
     Explanation,
     Flip,
@@ -34,9 +36,11 @@ from .errors import (
     NotOptimal,
     OtherModel,
     OtherProgram,
+    OtherRun,
     OtherSolver,
     OutOfMemory,
     Overflow,
+    PackageMissing,
     PamiError,
     ProgramMissing,
     ReadFault,
@@ -44,10 +48,14 @@ from .errors import (
     TextCut,
     TextFault,
     TookTooLong,
+    UnknownPicture,
     WriteFault,
 )
 from .model import Model
+from .page import report
+from .picture import plot
 from .program import check, find_program, solve
+from .replay import Mark, Point, Round, Trace, trace
 from .scenarios import Scenario, sweep
 from .source import read_model
 from .verdict import Verdict
@@ -57,6 +65,7 @@ __all__ = [
     "Basis",
     "Column",
     "Conflict",
+    "Drop",
     "DualInfeasible",
     "Event",
     "Explanation",
@@ -65,6 +74,7 @@ __all__ = [
     "IntegerModel",
     "LimitReached",
     "Major",
+    "Mark",
     "MissingFile",
     "Model",
     "ModelFault",
@@ -72,30 +82,39 @@ __all__ = [
     "NotOptimal",
     "OtherModel",
     "OtherProgram",
+    "OtherRun",
     "OtherSolver",
     "OutOfMemory",
     "Overflow",
+    "PackageMissing",
     "PamiError",
     "Phase",
     "Pivot",
+    "Point",
     "ProgramMissing",
     "ReadFault",
     "Refused",
     "Result",
     "Rollback",
+    "Round",
     "Row",
     "Scenario",
     "Status",
     "TextCut",
     "TextFault",
     "TookTooLong",
+    "Trace",
+    "UnknownPicture",
     "Verdict",
     "WriteFault",
     "check",
     "decimal",
     "find_program",
+    "plot",
     "read_model",
     "read_result",
+    "report",
     "solve",
     "sweep",
+    "trace",
 ]

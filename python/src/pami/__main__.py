@@ -1,4 +1,6 @@
-"""python -m pami: shows answers, judges certificates, tells what contradicts. `python -m pami --help` has the words."""
+"""python -m pami: shows answers, judges certificates, tells what contradicts, draws runs. `python -m pami --help` has
+the words.
+"""
 
 from __future__ import annotations
 
@@ -9,6 +11,8 @@ from pathlib import Path
 from .answer import Result, read_result
 from .certify import certify
 from .errors import PamiError
+from .page import report
+from .picture import plot
 from .program import solve
 from .source import ENCODING, ERRORS, read_model, read_text
 from .table import table
@@ -17,6 +21,14 @@ from .verify import verify
 
 # The statuses of `verify` are those of `pami check`.
 STATUSES = {"valid": 0, "invalid": 20, "unchecked": 21, "malformed": 22}
+
+
+def count(word: str) -> int:
+    """A number of pivots that is at least 1."""
+    value = int(word)
+    if value < 1:
+        raise ValueError
+    return value
 
 
 def words() -> argparse.ArgumentParser:
@@ -43,11 +55,25 @@ def words() -> argparse.ArgumentParser:
     other.add_argument("file", metavar="MODEL", help="the model")
     other.add_argument("--with", dest="solver", choices=("esolver",), default="esolver", help="QSopt_ex (esolver)")
     other.add_argument("-o", dest="out", metavar="CERT", help="where the certificate is written")
-    for command in (show, json, judge, other):
+    draw = commands.add_parser("plot", help="a picture of a run: the objective and what is missed over its pivots")
+    page = commands.add_parser(
+        "report", help="a page of HTML about an answer: the plan and its prices, or why there is none, and the run"
+    )
+    for command, out in ((draw, "the picture, .svg or .png"), (page, "the page")):
+        command.add_argument("file", metavar="TEXT", help="the text that `pami solve` wrote")
+        command.add_argument("model", metavar="MODEL", help="the model that it is of")
+        command.add_argument("-o", dest="out", metavar="OUT", required=True, help=out)
+        command.add_argument(
+            "--every", type=count, default=1, metavar="N", help="solve the basis again at each N pivots alone (1)"
+        )
+    page.add_argument("--digits", type=int, default=6, metavar="N", help="digits behind the point (6)")
+    for command in (show, json, judge, other, draw, page):
         command.add_argument(
             "--format", choices=("mps", "lp"), help="the format of the model, if its name doesn't say it"
         )
     for command in (show, json):
+        command.add_argument("--batch", type=int, metavar="S", help="the most rows of a batch")
+        command.add_argument("--refactor", type=int, metavar="R", help="the most pivots that a factor is kept for")
         command.add_argument("--limit", type=int, metavar="K", help="how many pivots are allowed")
     for command in (show, json, other):
         command.add_argument("--program", metavar="PATH", help="the program, if it isn't on the path nor named by PAMI")
@@ -59,7 +85,14 @@ def result_of(given: argparse.Namespace) -> Result:
     text = read_text(given.file)
     if text.startswith("pami "):
         return read_result(text, read_model(given.model, given.format) if given.model is not None else None)
-    return solve(given.file, format=given.format, limit=given.limit, program=given.program)
+    return solve(
+        given.file,
+        format=given.format,
+        batch=given.batch,
+        refactor=given.refactor,
+        limit=given.limit,
+        program=given.program,
+    )
 
 
 def judged(given: argparse.Namespace) -> Verdict:
@@ -80,6 +113,13 @@ def main(arguments: list[str] | None = None) -> int:
             verdict = judged(given)
             print(verdict)
             return STATUSES[verdict.kind]
+        if given.command == "plot":
+            plot(given.file, given.model, out=given.out, format=given.format, every=given.every)
+            return 0
+        if given.command == "report":
+            options = {"every": given.every, "digits": given.digits}
+            report(given.file, given.model, out=given.out, format=given.format, **options)
+            return 0
         result = result_of(given)
         print(result.to_json(indent=2) if given.command == "json" else table(result, max(given.digits, 0)))
     except PamiError as error:

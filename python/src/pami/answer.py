@@ -48,10 +48,17 @@ class Phase:
 
 @dataclass(frozen=True)
 class Major:
-    """Major `number` chose this place of the basis."""
+    """Major `number` chose these places of the basis, in this order."""
 
     number: int
     mode: str
+    places: tuple[int, ...]
+
+
+@dataclass(frozen=True)
+class Drop:
+    """The row at this place, which was chosen, is left out of the rest of its major."""
+
     place: int
 
 
@@ -94,7 +101,7 @@ class Rollback:
     right: Fraction
 
 
-Event = Phase | Major | Flip | Pivot | NoneEnters | Rollback
+Event = Phase | Major | Drop | Flip | Pivot | NoneEnters | Rollback
 
 
 @dataclass(frozen=True)
@@ -342,8 +349,10 @@ def _event(lines: _Lines, words: list[str]) -> Event:
     match words:
         case ["phase", phase]:
             return Phase(count(phase))
-        case ["major", major, mode, place]:
-            return Major(count(major), mode, count(place))
+        case ["major", major, "full" | "single" as mode, first, *places]:
+            return Major(count(major), mode, tuple(count(place) for place in (first, *places)))
+        case ["drop", place]:
+            return Drop(count(place))
         case ["flip", variable, to]:
             return Flip(variable, to)
         case ["pivot", pivot, place, leaving, to, entering, price]:

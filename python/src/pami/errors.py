@@ -101,6 +101,27 @@ class OtherModel(PamiError):
         )
 
 
+class OtherRun(OtherModel):
+    """The pivots of a text aren't steps on this model, though the names are those of the model. `pivots` says how many
+    were replayed.
+    """
+
+    def __init__(self, pivots: int, why: str) -> None:
+        PamiError.__init__(
+            self,
+            f"behind {pivots} pivots of the text {why}. So it isn't of a run on this model as it stands. Solve again.",
+        )
+        self.pivots = pivots
+
+
+class PackageMissing(PamiError):
+    """A package of others that pictures or pages need isn't there."""
+
+
+class UnknownPicture(PamiError):
+    """A picture is asked for in a format that isn't made here."""
+
+
 class ModelFault(PamiError):
     """This package's own reader doesn't understand a model. `line` counts from 1."""
 

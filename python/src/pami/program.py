@@ -73,17 +73,21 @@ def solve(
     model: Source,
     *,
     format: Format | None = None,
+    batch: int | None = None,
+    refactor: int | None = None,
     limit: int | None = None,
     program: Source | None = None,
     timeout: float | None = None,
 ) -> Result:
     """Solves a model: the name of a file, or a text, which is a str with a line end in it.
 
-    `limit` is how many pivots are allowed, 0 to 1000000. A run that ends at its limit or at a number that doesn't fit
-    is a result too, and so is a model without a plan or without a best one: see `Result.status`, or call
-    `Result.optimal`. All else is an error.
+    `batch` is the most rows of a batch, 1 to 8, `refactor` the most pivots that a factor of the basis is kept for, 0 to
+    64, and `limit` how many pivots are allowed, 0 to 1000000; the program has 4, 16 and 100000 for None. A run that
+    ends at its limit or at a number that doesn't fit is a result too, and so is a model without a plan or without a
+    best one: see `Result.status`, or call `Result.optimal`. All else is an error.
     """
-    words = [] if limit is None else ["--limit", str(limit)]
+    given = {"--batch": batch, "--refactor": refactor, "--limit": limit}
+    words = [word for option, value in given.items() if value is not None for word in (option, str(value))]
     with _as_file(model, "model") as file:
         form = format or guess_format(model)
         status, text = _call(["solve", "--format", form, *words, "--", file.path], program, timeout)
@@ -153,7 +157,8 @@ def _error(status: int, text: str, words: list[str], files: list[_File]) -> Pami
     """The error of a status that is no answer."""
     if status == 2 and text == "bad words\n":
         return BadWords(
-            f"the program doesn't take the words {words}: a limit is from 0 to 1000000, and names are UTF-8 texts"
+            f"the program doesn't take the words {words}: a batch is from 1 to 8, a refactor number from 0 to 64, a "
+            "limit from 0 to 1000000, and names are UTF-8 texts"
         )
     found = REFUSED.match(text)
     if status == 3 and found is not None:

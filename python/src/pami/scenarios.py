@@ -7,6 +7,7 @@ from collections.abc import Iterable
 from concurrent.futures import Executor, ThreadPoolExecutor
 from dataclasses import dataclass
 from functools import partial
+from typing import Any
 
 from .answer import Result
 from .errors import PamiError
@@ -40,6 +41,8 @@ def sweep(
     *,
     executor: Executor | None = None,
     format: Format | None = None,
+    batch: int | None = None,
+    refactor: int | None = None,
     limit: int | None = None,
     program: Source | None = None,
     timeout: float | None = None,
@@ -51,17 +54,17 @@ def sweep(
     only waits for its program. Where an executor works on another machine, the program and the files are looked for
     there, and a text is sent along.
     """
-    call = partial(_scenario, format=format, limit=limit, program=program, timeout=timeout)
+    call = partial(
+        _scenario, format=format, batch=batch, refactor=refactor, limit=limit, program=program, timeout=timeout
+    )
     if executor is not None:
         return list(executor.map(call, models))
     with ThreadPoolExecutor(os.cpu_count()) as pool:
         return list(pool.map(call, models))
 
 
-def _scenario(
-    model: Source, format: Format | None, limit: int | None, program: Source | None, timeout: float | None
-) -> Scenario:
+def _scenario(model: Source, **options: Any) -> Scenario:
     try:
-        return Scenario(model, solve(model, format=format, limit=limit, program=program, timeout=timeout))
+        return Scenario(model, solve(model, **options))
     except PamiError as error:
         return Scenario(model, error)

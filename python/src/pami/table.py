@@ -21,7 +21,7 @@ def table(result: Result, digits: int = 6) -> str:
         columns = [(it.name, it.value, it.own_reduced_cost, it.stand) for it in result.columns]
         rows = [(it.name, it.value, it.own_dual, it.stand) for it in result.rows]
         for kind, price, lines in (("column", "reduced cost", columns), ("row", "dual", rows)):
-            told = [(name, *_both(value, digits), *_both(cost, digits), stand) for name, value, cost, stand in lines]
+            told = [(name, *both(value, digits), *both(cost, digits), stand) for name, value, cost, stand in lines]
             parts.append(_columns([(kind, "value", "", price, "", "stands"), *told]))
         parts.append(f"Prices are {SENSES[result.sense]}. {LETTERS}")
     elif result.status is Status.INFEASIBLE and result.model is not None:
@@ -29,7 +29,7 @@ def table(result: Result, digits: int = 6) -> str:
     elif result.direction or result.multipliers:
         head = ("direction", "change", "") if result.direction else ("row", "multiplier", "")
         numbers = {**result.direction, **result.multipliers}
-        parts.append(_columns([head, *((name, *_both(it, digits)) for name, it in numbers.items() if it)]))
+        parts.append(_columns([head, *((name, *both(it, digits)) for name, it in numbers.items() if it)]))
     return "\n\n".join(parts)
 
 
@@ -42,11 +42,11 @@ def _head(result: Result, digits: int) -> str:
         return (
             f"{result.status}; the objective is too wide for the text, and is summed where the model is given\n{sizes}"
         )
-    shown, exact = _both(result.objective, digits)
+    shown, exact = both(result.objective, digits)
     return f"{result.status}: {' = '.join(word for word in (shown, exact) if word)}\n{sizes}"
 
 
-def _both(value: Fraction, digits: int) -> tuple[str, str]:
+def both(value: Fraction, digits: int) -> tuple[str, str]:
     """The decimal, and the fraction where the decimal isn't a whole number."""
     return decimal(value, digits), "" if value.denominator == 1 else str(value)
 
