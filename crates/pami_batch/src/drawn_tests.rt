@@ -463,7 +463,11 @@ fn lines_of(rt: &impl Abort, alloc: Global, drawn: &Drawn) -> Result<Vec<u8>, Fa
 }
 
 /// Has the first batch of each of these models the lines that are due?
-fn have_their_lines(rt: &impl Abort, alloc: Global, models: &[Drawn]) -> Result<(), Fail> {
+pub(crate) fn have_their_lines(
+    rt: &impl Abort,
+    alloc: Global,
+    models: &[Drawn],
+) -> Result<(), Fail> {
     for drawn in models {
         let lines = lines_of(rt, alloc, drawn)?;
         assert!(rt; lines.as_slice() == drawn.due.as_bytes(), "{}", drawn.due);

@@ -11,6 +11,8 @@ mod drawn_cases;
 #[cfg(test)]
 mod drawn_tests;
 mod faults;
+#[cfg(test)]
+mod known_tests;
 mod minors;
 mod minors_parts;
 mod minors_turn;
