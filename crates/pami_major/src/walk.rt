@@ -191,13 +191,13 @@ fn turn<T: Teller, L>(
 /// row has no entering variable, or an operation of a Single major doesn't fit. The first major is Full; a Full one that is
 /// refused is rolled back and followed by a Single one from the same state, and behind each kept one the next is Full.
 /// Majors are numbered behind `tried`, which counts each. A kept major takes a pivot, and one that is rolled back is followed
-/// by a Single one, so the limit ends every walk. Behind an optimal end the factor is that of the last kept major, or as
-/// before where none was kept; otherwise it is one of the last state's head, or none.
+/// by a Single one, so the limit ends every walk. An optimal end leaves the factor that the last kept major made, and the
+/// first one where none was kept; any other leaves one of the last state's head, or none.
 ///
 /// # Errors
 ///
-/// `TellFailed` only where the teller's count rose; the state is that of the last kept major, told or not. `OutOfMemory` where
-/// memory runs out; the state is that of the last kept major that was told.
+/// `TellFailed` only where the teller's count rose; a kept major has moved the state then, whether it could be told or not.
+/// `OutOfMemory` where memory runs out; a major that wasn't told for it hasn't moved the state.
 pub fn drive<T: Teller, L>(
     alloc: Global,
     form: &Form,
