@@ -1,0 +1,4 @@
+pub mod Rest
+pub mod Search
+pub mod Step
+pub mod Alike
