@@ -6,9 +6,10 @@ use Rattle.pami_frac.specs.Answers.{FollowsBy}
 use Rattle.pami_frac.specs.Decimal.{are_digits, number_after, before, onward}
 use Rattle.pami_method.specs.declared.words.Options.{Options}
 use Rattle.pami_method.specs.Walk.{IsOptions}
+use Rattle.pami_trial.specs.Transport.{IsSide}
 use Rattle.pami_words.specs.declared.command.BadWords.{BadWords}
 use Rattle.pami_words.specs.declared.command.Command.{Command}
-use Rattle.pami_words.specs.declared.command.Command.TheVariants.{Solve, Check}
+use Rattle.pami_words.specs.declared.command.Command.TheVariants.{Solve, Check, Trial}
 use Rattle.pami_words.specs.declared.item.Item.{Item}
 use Rattle.pami_words.specs.declared.item.Item.TheVariants.{Plain, Given}
 use Rattle.pami_words.specs.declared.item.Reading.{Reading}
@@ -22,11 +23,11 @@ use Rattle.pami_words.specs.declared.table.Takes.TheVariants as takes
 use Rattle.pami_words.specs.declared.value.FileFormat.{FileFormat}
 use Rattle.pami_words.specs.declared.value.Value.{Value}
 use Rattle.pami_words.specs.declared.value.Value.TheVariants as values
-use Rattle.pami_words.specs.Table.{commands, command_row, command_named, option_row, option_named, is_option, greatest_batch, greatest_refactor, greatest_limit, default_batch, default_refactor, default_limit}
+use Rattle.pami_words.specs.Table.{commands, command_row, command_named, option_row, option_named, is_option, greatest_batch, greatest_refactor, greatest_limit, default_batch, default_refactor, default_limit, greatest_side, greatest_seed}
 use Rattle.pami_words.specs.Numbers.{number_in, number_between}
 use Rattle.pami_words.specs.Values.{format_named, value_in}
 use Rattle.pami_words.specs.Items.{or_bad, is_end, is_plain, is_equals, given, option_valued, option_alone, option_taking, option_with, option_reading, reading_of, in_front, all_plain, last_item, first_item, items_of}
-use Rattle.pami_words.specs.Words.{values_of, are_for, word_at, first_value, number_or, lp_or, options_asked, asked_by, command_by, command_of, read_outcome, IsInRange}
+use Rattle.pami_words.specs.Words.{values_of, are_for, word_at, first_value, is_given, number_at, number_or, lp_or, options_asked, asked_by, command_by, command_of, read_outcome, IsInRange}
 use Rattle.pami_words.proofs.Steps.{or_bad_some, some_same}
 
 -- ---- one number
@@ -200,6 +201,7 @@ same_takes options.Format options.Format e = refl
 same_takes options.Batch options.Batch e = refl
 same_takes options.Refactor options.Refactor e = refl
 same_takes options.Limit options.Limit e = refl
+same_takes options.Ranging options.Ranging e = refl
 same_takes option other e = absurd (cc)
 
 values_between : (option : OptionName) (least greatest : ℕ) (items : List Item) → (option_row option).takes ≡ takes.Number least greatest → AreTaken items →
@@ -238,9 +240,10 @@ abbrev OneInRange : Option Command → Type 0
 OneInRange None = Unit {0}
 OneInRange (Some command) = IsInRange command
 
-solve_in_range : (file : Option (List ℕ)) (lp : List ℕ → Bool) (o : Options) → IsOptions o → OneInRange (option_map (λ f. Solve f (lp f) o) file)
-solve_in_range None lp o h = tt
-solve_in_range (Some file) lp o h = h
+solve_in_range : (file : Option (List ℕ)) (lp : List ℕ → Bool) (o : Options) (ranging : Bool) → IsOptions o →
+    OneInRange (option_map (λ f. Solve f (lp f) o ranging) file)
+solve_in_range None lp o ranging h = tt
+solve_in_range (Some file) lp o ranging h = h
 
 check_in_range : (file cert : Option (List ℕ)) (lp : List ℕ → Bool) →
     OneInRange (option_and_then (λ f. option_map (λ c. Check f c (lp f)) cert) file)
@@ -248,11 +251,29 @@ check_in_range None cert lp = tt
 check_in_range (Some file) None lp = tt
 check_in_range (Some file) (Some cert) lp = tt
 
+-- a number of a word is in the range that it was read in
+side_within : (place n : ℕ) (items : List Item) → number_at 1 greatest_side place items ≡ Some n → IsSide n
+side_within place n items e = go (word_at place items) e
+  where
+    go : (word : Option (List ℕ)) → option_and_then (number_between 1 greatest_side) word ≡ Some n → IsSide n
+    go None e = absurd (cc)
+    go (Some text) e = let h = number_within 1 greatest_side n text e in record { some = h.0; most = h.1 }
+
+trial_in_range : (seed sources sinks : Option ℕ) → ((n : ℕ) → sources ≡ Some n → IsSide n) → ((n : ℕ) → sinks ≡ Some n → IsSide n) →
+    OneInRange (option_and_then (λ seed. option_and_then (λ sources. option_map (λ sinks. Trial seed sources sinks) sinks) sources) seed)
+trial_in_range None sources sinks h k = tt
+trial_in_range (Some seed) None sinks h k = tt
+trial_in_range (Some seed) (Some m) None h k = tt
+trial_in_range (Some seed) (Some m) (Some n) h k = (h m refl, k n refl)
+
 asked_in_range : (name : CommandName) (items : List Item) → AreTaken items → OneInRange (asked_by name items)
 asked_in_range names.Solve items h =
-    solve_in_range (word_at 0 items) (λ f. lp_or f (first_value options.Format items)) (options_asked items) (options_between items h)
+    solve_in_range (word_at 0 items) (λ f. lp_or f (first_value options.Format items)) (options_asked items) (is_given options.Ranging items) (options_between items h)
 asked_in_range names.Check items h =
     check_in_range (word_at 0 items) (word_at 1 items) (λ f. lp_or f (first_value options.Format items))
+asked_in_range names.Trial items h =
+    trial_in_range (number_at 0 greatest_seed 0 items) (number_at 1 greatest_side 1 items) (number_at 1 greatest_side 2 items)
+    (λ n e. side_within 1 n items e) (λ n e. side_within 2 n items e)
 
 by_in_range : (name : CommandName) (items : List Item) → AreTaken items → OneInRange (command_by name items)
 by_in_range name items h = go (are_for (command_row name) items)

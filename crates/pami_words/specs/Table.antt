@@ -2,10 +2,11 @@
 use Rattle.std.specs.Prelude.{ℕ, Bool, List, [], ◌∷◌, Option, None, Some, codes, if◌then◌else◌}
 use Rattle.std.specs.Str.{bytes_eq}
 pub use Rattle.pami_method.specs.Walk.{greatest_batch, greatest_refactor, greatest_limit}
+pub use Rattle.pami_trial.specs.Transport.{greatest_side}
 use Rattle.pami_words.specs.declared.table.CommandName.{CommandName}
-use Rattle.pami_words.specs.declared.table.CommandName.TheVariants.{Solve, Check}
+use Rattle.pami_words.specs.declared.table.CommandName.TheVariants.{Solve, Check, Trial}
 use Rattle.pami_words.specs.declared.table.OptionName.{OptionName}
-use Rattle.pami_words.specs.declared.table.OptionName.TheVariants.{Format, Batch, Refactor, Limit}
+use Rattle.pami_words.specs.declared.table.OptionName.TheVariants.{Format, Batch, Refactor, Limit, Ranging}
 use Rattle.pami_words.specs.declared.table.Takes.{Takes}
 use Rattle.pami_words.specs.declared.table.Takes.TheVariants as takes
 
@@ -18,6 +19,10 @@ default_refactor = 16
 
 abbrev pub default_limit : ℕ
 default_limit = 100000
+
+-- the greatest seed of a trial
+abbrev pub greatest_seed : ℕ
+greatest_seed = 4294967295
 
 -- how a command is called: its word, how many plain words it takes, and the options that it has
 pub record CommandRow : Type 0 where
@@ -34,12 +39,13 @@ pub record OptionRow : Type 0 where
 
 -- all commands
 abbrev pub commands : List CommandName
-commands = Solve ∷ Check ∷ []
+commands = Solve ∷ Check ∷ Trial ∷ []
 
 -- the row of a command
 abbrev pub command_row : CommandName → CommandRow
-command_row Solve = record { word = codes "solve"; plain = 1; options = Format ∷ Batch ∷ Refactor ∷ Limit ∷ [] }
+command_row Solve = record { word = codes "solve"; plain = 1; options = Format ∷ Batch ∷ Refactor ∷ Limit ∷ Ranging ∷ [] }
 command_row Check = record { word = codes "check"; plain = 2; options = Format ∷ [] }
+command_row Trial = record { word = codes "trial"; plain = 3; options = [] }
 
 -- the row of an option
 abbrev pub option_row : OptionName → OptionRow
@@ -47,6 +53,7 @@ option_row Format = record { word = codes "--format"; takes = takes.Format }
 option_row Batch = record { word = codes "--batch"; takes = takes.Number 1 greatest_batch }
 option_row Refactor = record { word = codes "--refactor"; takes = takes.Number 0 greatest_refactor }
 option_row Limit = record { word = codes "--limit"; takes = takes.Number 0 greatest_limit }
+option_row Ranging = record { word = codes "--ranging"; takes = takes.Nothing }
 
 -- ---- rows by their words
 

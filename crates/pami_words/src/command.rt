@@ -8,11 +8,13 @@ use thiserror::Error;
 /// A command with what it is given.
 #[derive(Debug, Drop)]
 pub enum Command {
-    /// Solve the model of FILE, which is in the CPLEX LP format where `lp` says so and else in MPS, with these options.
+    /// Solve the model of FILE, which is in the CPLEX LP format where `lp` says so and else in MPS, with these options, and
+    /// behind an optimal answer tell its ranges where they are wanted.
     Solve {
         file: Word,
         lp: bool,
         options: Options,
+        ranging: bool,
     },
     /// Check the certificate of CERT against the model of FILE, which is in the CPLEX LP format where `lp` says so and
     /// else in MPS.
@@ -20,6 +22,12 @@ pub enum Command {
         file: Word,
         cert: Word,
         lp: bool,
+    },
+    /// Solve the transport model that this seed draws, with so many sources and sinks, and tell a summary.
+    Trial {
+        seed: u32,
+        sources: u32,
+        sinks: u32,
     },
 }
 

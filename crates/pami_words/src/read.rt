@@ -9,8 +9,10 @@ ghost use Rattle.pami_words.specs.Words as asked;
 
 use crate::command::{BadWords, Command};
 use crate::item::{Item, Reading, given, reading_of};
+use crate::number::number_between;
 use crate::table::{
-    CommandName, DEFAULT_BATCH, DEFAULT_LIMIT, DEFAULT_REFACTOR, OptionName, Takes,
+    CommandName, DEFAULT_BATCH, DEFAULT_LIMIT, DEFAULT_REFACTOR, GREATEST_SEED, GREATEST_SIDE,
+    OptionName, Takes,
 };
 use crate::value::Value;
 use pami_edge::Word;
@@ -158,6 +160,21 @@ fn first_value(items: &[Item], option: OptionName) -> Option<Value>
     None
 }
 
+/// Whether the option is given.
+fn is_given(items: &[Item], option: OptionName) -> bool
+    ensures { result ≡ asked.is_given option items.now }
+{
+    1 <= count_of(items, option)
+}
+
+/// The number that the plain word at this place writes, if it is in this range.
+fn number_at(items: &[Item], place: usize, least: u32, greatest: u32) -> Option<u32>
+    ensures { result ≡ asked.number_at least greatest place items.now }
+{
+    let word = word_at(items, place)?;
+    number_between(word.as_slice(), least, greatest)
+}
+
 /// The number that is given, or this one.
 fn number_or(default: u32, given: Option<Value>) -> u32
     ensures { result ≡ asked.number_or default given }
@@ -226,6 +243,7 @@ fn solve_asked(alloc: Global, items: &[Item]) -> Result<Command, Fault<BadWords>
         file: file.copy(alloc)?,
         lp: lp_or(file.as_slice(), first_value(items, OptionName::Format)),
         options: options_asked(items),
+        ranging: is_given(items, OptionName::Ranging),
     })
 }
 
@@ -246,6 +264,20 @@ fn check_asked(alloc: Global, items: &[Item]) -> Result<Command, Fault<BadWords>
     })
 }
 
+/// What `trial` is asked by items that are its own.
+fn trial_asked(items: &[Item]) -> Option<Command>
+    ensures { result ≡ asked.trial_asked items.now }
+{
+    let seed = number_at(items, 0, 0, GREATEST_SEED)?;
+    let sources = number_at(items, 1, 1, GREATEST_SIDE)?;
+    let sinks = number_at(items, 2, 1, GREATEST_SIDE)?;
+    Some(Command::Trial {
+        seed,
+        sources,
+        sinks,
+    })
+}
+
 /// What a command is asked by these items, if they are its own.
 ///
 /// # Errors
@@ -260,6 +292,7 @@ fn command_by(alloc: Global, name: CommandName, items: &[Item]) -> Result<Comman
     match name {
         CommandName::Solve => solve_asked(alloc, items),
         CommandName::Check => check_asked(alloc, items),
+        CommandName::Trial => Ok(trial_asked(items).ok_or(BadWords)?),
     }
 }
 

@@ -4,6 +4,7 @@ ghost use Rattle.std.specs.Prelude.{◌≡◌};
 ghost use Rattle.pami_words.specs.Table as table;
 
 use pami_method::{GREATEST_BATCH, GREATEST_LIMIT, GREATEST_REFACTOR};
+pub use pami_trial::GREATEST_SIDE;
 
 /// The most rows of a batch where none is given.
 pub const DEFAULT_BATCH: u32 = 4;
@@ -14,11 +15,15 @@ pub const DEFAULT_REFACTOR: u32 = 16;
 /// The limit of pivots where none is given.
 pub const DEFAULT_LIMIT: u32 = 100_000;
 
+/// The greatest seed of a trial.
+pub const GREATEST_SEED: u32 = 4_294_967_295;
+
 /// A command, by the first word.
 #[derive(Clone, Copy, Debug, PartialEq, Eq)]
 pub enum CommandName {
     Solve,
     Check,
+    Trial,
 }
 
 /// An option, by its word.
@@ -28,6 +33,7 @@ pub enum OptionName {
     Batch,
     Refactor,
     Limit,
+    Ranging,
 }
 
 /// What an option is given.
@@ -42,14 +48,15 @@ pub enum Takes {
 }
 
 /// All commands.
-const COMMANDS: [CommandName; 2] = [CommandName::Solve, CommandName::Check];
+const COMMANDS: [CommandName; 3] = [CommandName::Solve, CommandName::Check, CommandName::Trial];
 
 /// The options of `solve`.
-const SOLVE_OPTIONS: [OptionName; 4] = [
+const SOLVE_OPTIONS: [OptionName; 5] = [
     OptionName::Format,
     OptionName::Batch,
     OptionName::Refactor,
     OptionName::Limit,
+    OptionName::Ranging,
 ];
 
 /// The options of `check`.
@@ -63,6 +70,7 @@ impl CommandName {
         match self {
             CommandName::Solve => b"solve",
             CommandName::Check => b"check",
+            CommandName::Trial => b"trial",
         }
     }
 
@@ -73,6 +81,7 @@ impl CommandName {
         match self {
             CommandName::Solve => 1,
             CommandName::Check => 2,
+            CommandName::Trial => 3,
         }
     }
 
@@ -83,6 +92,7 @@ impl CommandName {
         match self {
             CommandName::Solve => &SOLVE_OPTIONS,
             CommandName::Check => &CHECK_OPTIONS,
+            CommandName::Trial => &[],
         }
     }
 
@@ -116,6 +126,7 @@ impl OptionName {
             OptionName::Batch => b"--batch",
             OptionName::Refactor => b"--refactor",
             OptionName::Limit => b"--limit",
+            OptionName::Ranging => b"--ranging",
         }
     }
 
@@ -137,6 +148,7 @@ impl OptionName {
                 least: 0,
                 greatest: GREATEST_LIMIT,
             },
+            OptionName::Ranging => Takes::Nothing,
         }
     }
 

@@ -19,18 +19,11 @@ fn words(alloc: Global, texts: &[&str]) -> Result<Vec<Word>, Fail> {
 }
 
 /// The caller that the crate's head shows.
-fn model_file(alloc: Global, words: &[Word]) -> Result<Word, Fault<BadWords>> {
+fn model_file(alloc: Global, words: &[Word]) -> Result<Option<Word>, Fault<BadWords>> {
     match read_words(alloc, words)? {
-        Command::Solve {
-            file,
-            lp: _,
-            options: _,
-        } => Ok(file),
-        Command::Check {
-            file,
-            cert: _,
-            lp: _,
-        } => Ok(file),
+        Command::Solve { file, .. } => Ok(Some(file)),
+        Command::Check { file, .. } => Ok(Some(file)),
+        Command::Trial { .. } => Ok(None),
     }
 }
 
@@ -42,11 +35,13 @@ fn a_caller_takes_what_is_asked(rt: HostRuntime) -> Result<(), Fail> {
     ];
     for texts in rows {
         let given = words(rt.alloc(), texts)?;
-        let Ok(file) = model_file(rt.alloc(), given.as_slice()) else {
+        let Ok(Some(file)) = model_file(rt.alloc(), given.as_slice()) else {
             return Err(Fail::from("words of the table"));
         };
         assert!(rt; file.is(b"m.mps"));
     }
+    let trial = words(rt.alloc(), &["trial", "7", "20", "30"])?;
+    assert!(rt; matches!(model_file(rt.alloc(), trial.as_slice()), Ok(None)));
     Ok(())
 }
 
@@ -85,6 +80,7 @@ fn words_of_solve(rt: HostRuntime) -> Result<(), Fail> {
                 file: name,
                 lp: _,
                 options,
+                ranging,
             },
         ) = read_words(alloc, words.as_slice())
         else {
@@ -94,6 +90,7 @@ fn words_of_solve(rt: HostRuntime) -> Result<(), Fail> {
         assert_eq!(rt; options.limit, limit, "limit of {file}");
         assert_eq!(rt; options.batch, DEFAULT_BATCH, "batch of {file}");
         assert_eq!(rt; options.refactor, DEFAULT_REFACTOR, "refactor of {file}");
+        assert!(rt; !ranging, "ranges of {file}");
     }
     Ok(())
 }
@@ -136,6 +133,7 @@ fn options_of_solve(rt: HostRuntime) -> Result<(), Fail> {
                 file: _,
                 lp: _,
                 options,
+                ranging: _,
             },
         ) = read_words(alloc, words.as_slice())
         else {
@@ -176,12 +174,83 @@ fn formats_of_solve(rt: HostRuntime) -> Result<(), Fail> {
                 file: _,
                 lp,
                 options: _,
+                ranging: _,
             },
         ) = read_words(alloc, words.as_slice())
         else {
             return Err(Fail::from("words of the table"));
         };
         assert_eq!(rt; lp, format);
+    }
+    Ok(())
+}
+
+/// The flag for the ranges, which takes nothing: the word behind it is FILE, another option or the end of the options.
+#[test]
+fn ranges_of_solve(rt: HostRuntime) -> Result<(), Fail> {
+    let alloc = rt.alloc();
+    let rows: [(&[&str], &str, u32, bool); 8] = [
+        (&["solve", "m.mps"], "m.mps", 100_000, false),
+        (&["solve", "m.mps", "--ranging"], "m.mps", 100_000, true),
+        (&["solve", "--ranging", "m.mps"], "m.mps", 100_000, true),
+        (&["solve", "--ranging", "--limit=7", "m"], "m", 7, true),
+        (&["solve", "--limit", "7", "--ranging", "m"], "m", 7, true),
+        (&["solve", "--ranging", "--", "-"], "-", 100_000, true),
+        (
+            &["solve", "--ranging", "--", "--ranging"],
+            "--ranging",
+            100_000,
+            true,
+        ),
+        (&["solve", "--", "--ranging"], "--ranging", 100_000, false),
+    ];
+    for (texts, file, limit, wanted) in rows {
+        let words = words(alloc, texts)?;
+        let Ok(
+            Command::Solve {
+                file: name,
+                lp: _,
+                options,
+                ranging,
+            },
+        ) = read_words(alloc, words.as_slice())
+        else {
+            return Err(Fail::from("words of the table"));
+        };
+        assert!(rt; name.is(file.as_bytes()), "FILE {file}");
+        assert_eq!(rt; options.limit, limit, "limit of {file}");
+        assert_eq!(rt; ranging, wanted, "ranges of {file}");
+    }
+    Ok(())
+}
+
+/// The seed of a trial and its sides, each in 1 to 10 digits.
+#[test]
+fn words_of_trial(rt: HostRuntime) -> Result<(), Fail> {
+    let alloc = rt.alloc();
+    let rows: [(&[&str], [u32; 3]); 8] = [
+        (&["trial", "7", "20", "30"], [7, 20, 30]),
+        (&["trial", "0", "1", "1"], [0, 1, 1]),
+        (&["trial", "4294967295", "64", "64"], [u32::MAX, 64, 64]),
+        (&["trial", "0000000007", "020", "0000000030"], [7, 20, 30]),
+        (&["trial", "--", "7", "20", "30"], [7, 20, 30]),
+        (&["trial", "7", "--", "20", "30"], [7, 20, 30]),
+        (&["trial", "7", "20", "30", "--"], [7, 20, 30]),
+        (&["trial", "0000000000", "1", "64"], [0, 1, 64]),
+    ];
+    for (texts, wanted) in rows {
+        let words = words(alloc, texts)?;
+        let Ok(
+            Command::Trial {
+                seed,
+                sources,
+                sinks,
+            },
+        ) = read_words(alloc, words.as_slice())
+        else {
+            return Err(Fail::from("words of the table"));
+        };
+        assert_eq!(rt; [seed, sources, sinks], wanted);
     }
     Ok(())
 }
@@ -333,18 +402,69 @@ fn words_outside_the_table(rt: HostRuntime) -> Result<(), Fail> {
     Ok(())
 }
 
-/// What no row takes yet: an option without a value, and a range that doesn't begin with 0.
+/// The flag with a value, twice, abbreviated, or of another command; and words of `trial` that aren't three numbers, each in
+/// its range.
 #[test]
-fn flags_and_ranges(rt: HostRuntime) -> Result<(), Fail> {
-    let flag = option_taking(OptionName::Limit, Takes::Nothing, b"");
+fn no_flags_and_no_trials(rt: HostRuntime) -> Result<(), Fail> {
+    let alloc = rt.alloc();
+    let rows: [&[&str]; 36] = [
+        &["solve", "--ranging"],
+        &["solve", "m.mps", "--ranging", "--ranging"],
+        &["solve", "--ranging", "m.mps", "--ranging"],
+        &["solve", "m.mps", "--ranging="],
+        &["solve", "m.mps", "--ranging=1"],
+        &["solve", "m.mps", "--ranging", "1"],
+        &["solve", "m.mps", "--Ranging"],
+        &["solve", "m.mps", "--rang"],
+        &["solve", "m.mps", "-ranging"],
+        &["solve", "m.mps", "--limit", "--ranging"],
+        &["check", "m.mps", "c", "--ranging"],
+        &["trial"],
+        &["trial", "7"],
+        &["trial", "7", "20"],
+        &["trial", "7", "20", "30", "40"],
+        &["Trial", "7", "20", "30"],
+        &["trial", "7", "20", ""],
+        &["trial", "", "20", "30"],
+        &["trial", "-7", "20", "30"],
+        &["trial", "--", "-7", "20", "30"],
+        &["trial", "+7", "20", "30"],
+        &["trial", "-", "20", "30"],
+        &["trial", "7", "20", "3x"],
+        &["trial", "7.0", "20", "30"],
+        &["trial", "4294967296", "20", "30"],
+        &["trial", "00000000007", "20", "30"],
+        &["trial", "7", "0", "30"],
+        &["trial", "7", "65", "30"],
+        &["trial", "7", "20", "0"],
+        &["trial", "7", "20", "65"],
+        &["trial", "7", "20", "4294967297"],
+        &["trial", "7", "20", "30", "--limit", "5"],
+        &["trial", "7", "20", "30", "--batch=4"],
+        &["trial", "7", "20", "30", "--refactor=0"],
+        &["trial", "7", "20", "30", "--ranging"],
+        &["trial", "7", "20", "30", "--format=mps"],
+    ];
+    for texts in rows {
+        let words = words(alloc, texts)?;
+        let read = read_words(alloc, words.as_slice());
+        assert!(rt; matches!(read, Err(Fault::Named(BadWords))));
+    }
+    Ok(())
+}
+
+/// An option that takes nothing, alone and with a value; and ranges of numbers.
+#[test]
+fn flags_and_numbers(rt: HostRuntime) -> Result<(), Fail> {
+    let flag = option_taking(OptionName::Ranging, Takes::Nothing, b"");
     assert!(rt;
         matches!(
             flag,
-            Some(Reading::Alone(Item::Given(OptionName::Limit, Value::Nothing)))
+            Some(Reading::Alone(Item::Given(OptionName::Ranging, Value::Nothing)))
         )
     );
     for value in [b"=".as_slice(), b"=1".as_slice()] {
-        assert!(rt; option_taking(OptionName::Limit, Takes::Nothing, value).is_none());
+        assert!(rt; option_taking(OptionName::Ranging, Takes::Nothing, value).is_none());
     }
     for (text, number) in [
         ("0", None),
