@@ -6,7 +6,8 @@ use Rattle.pami_frac.specs.declared.fault.OutOfMemory.{OutOfMemory}
 use Rattle.pami_edge.specs.Outside.{Files, HasFile, HasLongFile}
 use Rattle.pami_edge.specs.Calls.{ShelfCall, SinkCall, WroteNothing}
 use Rattle.pami_words.specs.declared.command.Command.{Command}
-use Rattle.pami_words.specs.declared.command.Command.TheVariants.{Check}
+use Rattle.pami_method.specs.declared.words.Options.{Options}
+use Rattle.pami_words.specs.declared.command.Command.TheVariants.{Solve, Check}
 use Rattle.pami_model.specs.Contents.{Contents}
 use Rattle.pami_model.specs.Rules.{byte_limit}
 use Rattle.pami_model_form.specs.ModelForm.{model_form}
@@ -23,7 +24,7 @@ use Rattle.pami_cli.specs.Text.{refused_text, wide_text, malformed_text}
 use Rattle.pami_cli.specs.Reading.{Format, format_by, IsTextOf, IsFirstFaultOf}
 use Rattle.pami_cli.specs.Taken.{IsTaken, IsFitting}
 use Rattle.pami_cli.specs.Judged.{Judges}
-use Rattle.pami_cli.specs.Run.{IsAccepted, IsCertDue, IsCheckDue, IsWrittenBy, EndsBy, Call, AskFor, Ends, IsDue, IsFront, Refuses, file_of, format_of}
+use Rattle.pami_cli.specs.Run.{IsAccepted, IsCertDue, IsCheckDue, IsWrittenBy, EndsBy, Call, AskFor, Ends, IsDue, IsFront, ModelFile, Refuses, file_of}
 use Rattle.pami_cli.proofs.Readings.{long_fault, long_file}
 use Rattle.pami_cli.proofs.Checks.{long_cert_fault, long_cert_file}
 use Rattle.pami_cli.proofs.Runs.{answer_ends, ends_too}
@@ -130,20 +131,38 @@ asked_file shelf files file read bytes format written old mid new e h g o m same
     some_same k = cc
 
 -- the same of the command that the words ask for
-pub asked_command : {E : Type 0} (outcome : Result Command E) (command : Command) (file cert : List ℕ) (lp : Bool) (files : Files) (bytes written : List ℕ) (asked : List (List ℕ))
-    → outcome ≡ Ok (Check file cert lp) → outcome ≡ Ok command → files (file_of command) ≡ Some bytes → Refuses (format_of command) bytes written
-    → (files file ≡ Some bytes → Refuses (format_by lp) bytes written → asked ≡ file ∷ []) → IsFront asked (file_of command ∷ [])
-asked_command {E = E} outcome command file cert lp files bytes written asked is asks stands refuses front =
-    subst (λ (k : Command). files (file_of k) ≡ Some bytes → Refuses (format_of k) bytes written → IsFront asked (file_of k ∷ [])) same go stands refuses
+pub asked_command : {E : Type 0} (outcome : Result Command E) (command : Command) (own : ModelFile) (file cert : List ℕ) (lp : Bool) (files : Files) (bytes written : List ℕ) (asked : List (List ℕ))
+    → outcome ≡ Ok (Check file cert lp) → outcome ≡ Ok command → file_of command ≡ Some own → files own.name ≡ Some bytes → Refuses own.format bytes written
+    → (files file ≡ Some bytes → Refuses (format_by lp) bytes written → asked ≡ file ∷ []) → IsFront asked (own.name ∷ [])
+asked_command {E = E} outcome command own file cert lp files bytes written asked is asks reads stands refuses front =
+    subst (λ (x : ModelFile). files x.name ≡ Some bytes → Refuses x.format bytes written → IsFront asked (x.name ∷ [])) same go stands refuses
   where
     ok_same : {x y : Command} → ◌≡◌ {A = Result Command E} (Ok x) (Ok y) → x ≡ y
     ok_same k = cc
 
-    same : Check file cert lp ≡ command
-    same = ok_same (sym is ∙ asks)
+    some_same : {x y : ModelFile} → Some x ≡ Some y → x ≡ y
+    some_same k = cc
+
+    same : record { name = file; format = format_by lp } ≡ own
+    same = some_same (ap file_of (ok_same (sym is ∙ asks)) ∙ reads)
 
     go : files file ≡ Some bytes → Refuses (format_by lp) bytes written → IsFront asked (file ∷ [])
     go s r = ([], append-nil asked ∙ front s r)
+
+-- and of `solve`, which asks for its FILE
+pub asked_solve : {E : Type 0} (outcome : Result Command E) (command : Command) (own : ModelFile) (file : List ℕ) (lp : Bool) (options : Options) (ranging : Bool) (asked : List (List ℕ))
+    → outcome ≡ Ok (Solve file lp options ranging) → outcome ≡ Ok command → file_of command ≡ Some own → asked ≡ file ∷ [] → IsFront asked (own.name ∷ [])
+asked_solve {E = E} outcome command own file lp options ranging asked is asks reads e =
+    subst (λ (x : ModelFile). IsFront asked (x.name ∷ [])) same ([], append-nil asked ∙ e)
+  where
+    ok_same : {x y : Command} → ◌≡◌ {A = Result Command E} (Ok x) (Ok y) → x ≡ y
+    ok_same k = cc
+
+    some_same : {x y : ModelFile} → Some x ≡ Some y → x ≡ y
+    some_same k = cc
+
+    same : record { name = file; format = format_by lp } ≡ own
+    same = some_same (ap file_of (ok_same (sym is ∙ asks)) ∙ reads)
 
 -- nothing was asked for
 pub asked_nothing : (old : List (List ℕ)) (file : List ℕ) → old ≡ [] → IsFront old (file ∷ [])

@@ -1,6 +1,13 @@
 pub mod Answers
 pub mod Readings
 pub mod Checks
+pub mod BestEnds
+pub mod Ranged
+pub mod FirstWords
+pub mod Summed
+pub mod ObjectiveWords
+pub mod TrialWidths
+pub mod Trials
 pub mod Runs
 pub mod CheckRuns
 pub mod Lines

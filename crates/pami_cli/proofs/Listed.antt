@@ -44,12 +44,18 @@ last_read : (f : Form) (state : State) (st : method.State) (s : Fresh) → IsLas
 last_read f state st s l = record { basis = l.basis; solved = l.solved }
 
 pub optimal_read : (f : Form) (state : State) (factor : Option Product) → IsReadable f (answers.Optimal state factor) → IsRead f state
-optimal_read f state factor (phases.Optimal st s, l) = last_read f state st s l.0
-optimal_read f state factor (a, is) = absurd is
+optimal_read f state factor r = go r.given r.is
+  where
+    go : (a : phases.Answer) → IsAnswerOf f (answers.Optimal state factor) a → IsRead f state
+    go (phases.Optimal st s) l = last_read f state st s l.0
+    go a is = absurd is
 
 pub boxes_read : (f : Form) (state : State) (boxes : ProgramForm) → IsReadable f (answers.DualInfeasible state boxes) → IsRead (boxes_of f) state × (form_of boxes ≡ boxes_of f)
-boxes_read f state boxes (phases.DualInfeasible st s, l) = (last_read (boxes_of f) state st s l.0, l.1)
-boxes_read f state boxes (a, is) = absurd is
+boxes_read f state boxes r = go r.given r.is
+  where
+    go : (a : phases.Answer) → IsAnswerOf f (answers.DualInfeasible state boxes) a → IsRead (boxes_of f) state × (form_of boxes ≡ boxes_of f)
+    go (phases.DualInfeasible st s) l = (last_read (boxes_of f) state st s l.0, l.1)
+    go a is = absurd is
 
 module _ (f : Form) (bounds : List Bounds) (st : State) (has : HasBounds f bounds) (r : IsRead f st) where
   pub read_values : length st.values ≡ length st.head

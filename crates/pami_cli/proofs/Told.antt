@@ -22,7 +22,7 @@ use Rattle.pami_lines.specs.Head.{Counts, head_lines, phase_line}
 use Rattle.pami_lines.specs.Names.{Names}
 use Rattle.pami_lines.proofs.Texts.{text_append}
 use Rattle.pami_lines.proofs.Objectives.{objective_holds}
-use Rattle.pami_text.specs.Record.{phase_lines, answer_lines}
+use Rattle.pami_text.specs.Record.{phase_lines, answer_lines, run_lines}
 use Rattle.pami_log.specs.declared.event.Event.{Event}
 use Rattle.pami_log.specs.Events.{event_lines}
 use Rattle.pami_log.proofs.Lines.{walk_is}
@@ -33,9 +33,10 @@ use Rattle.pami_model_form.specs.Named.{names_of, counts_of, named_of}
 use Rattle.pami_cli.specs.declared.answer.Answer.{Answer as Answered}
 use Rattle.pami_cli.specs.declared.status.Status.{Status}
 use Rattle.pami_cli.specs.declared.status.Status.TheVariants as statuses
-use Rattle.pami_cli.specs.Text.{begun_text, run_text, wide_text}
+use Rattle.pami_cli.specs.Text.{begun_text, ranges_behind, run_text, wide_text}
+use Rattle.pami_cli.specs.declared.wish.Wish.{Wish}
 use Rattle.pami_cli.specs.Solved.{IsTold}
-use Rattle.pami_cli.specs.Answer.{HasStatus, HoldsFor, IsCertified, RunsSoundly, AnswersRun, AnswersModel}
+use Rattle.pami_cli.specs.Answer.{HasStatus, HoldsFor, IsCertified, RunsTruly, RunsSoundly, AnswersRun, AnswersModel}
 
 -- ---- texts
 -- the texts of events are the text of their lines
@@ -54,21 +55,34 @@ record_is n counts o r =
     ∙ ap (λ z. z ++ flat_map (event_lines n counts) (phase_events o 2 r.phase_two)) (phase_is n counts o 1 r.phase_one)
     ∙ ap (λ z. phase_lines n o 1 r.phase_one ++ z) (phase_is n counts o 2 r.phase_two)
 
--- the head, the lines of the events and those of the answer are the text of the run
-run_text_is : (c : Contents) (o : Options) (r : Record) (answer : Answer) (events : List Event) → record_events o r ≡ events → begun_text c events ++ text (answer_lines (named_of c) answer) ≡ run_text c o r answer
-run_text_is c o r answer events e =
+-- the lines of a run, by its events
+pub run_lines_are : (c : Contents) (o : Options) (r : Record) (answer : Answer) (events : List Event) → record_events o r ≡ events
+    → head_lines (counts_of c) ++ (flat_map (event_lines (names_of c) (counts_of c)) events ++ answer_lines (named_of c) answer) ≡ run_lines (named_of c) o r answer
+run_lines_are c o r answer events e =
     let heads : List (List (List ℕ)) = head_lines (counts_of c) in
     let one : List (List (List ℕ)) = phase_lines (names_of c) o 1 r.phase_one in
     let two : List (List (List ℕ)) = phase_lines (names_of c) o 2 r.phase_two in
     let last : List (List (List ℕ)) = answer_lines (named_of c) answer in
-    let each : flat_map (λ (x : Event). text (event_lines (names_of c) (counts_of c) x)) events ≡ text (one ++ two) =
-    ap (flat_map (λ (x : Event). text (event_lines (names_of c) (counts_of c) x))) (sym e)
-    ∙ text_of_each (event_lines (names_of c) (counts_of c)) (record_events o r)
-    ∙ ap text (record_is (names_of c) (counts_of c) o r) in
-    ap (λ (z : List ℕ). (text heads ++ z) ++ text last) each
-    ∙ append_assoc (text heads) (text (one ++ two)) (text last)
-    ∙ ap (λ (z : List ℕ). text heads ++ z) (sym (text_append (one ++ two) last) ∙ ap text (append_assoc one two last))
-    ∙ sym (text_append heads (one ++ (two ++ last)))
+    ap (λ (z : List (List (List ℕ))). heads ++ (z ++ last))
+    (ap (flat_map (event_lines (names_of c) (counts_of c))) (sym e) ∙ record_is (names_of c) (counts_of c) o r)
+    ∙ ap (λ (z : List (List (List ℕ))). heads ++ z) (append_assoc one two last)
+
+-- the head, the lines of the events, those of the answer and those of the ranges are the text of the run
+run_text_is : (c : Contents) (w : Wish) (r : Record) (answer : Answer) (events : List Event) → record_events w.options r ≡ events
+    → (begun_text c events ++ text (answer_lines (named_of c) answer)) ++ text (ranges_behind c w.ranging answer) ≡ run_text c w r answer
+run_text_is c w r answer events e =
+    let heads : List (List (List ℕ)) = head_lines (counts_of c) in
+    let told : List (List (List ℕ)) = flat_map (event_lines (names_of c) (counts_of c)) events in
+    let last : List (List (List ℕ)) = answer_lines (named_of c) answer in
+    let behind : List (List (List ℕ)) = ranges_behind c w.ranging answer in
+    let lines : (text heads ++ text told) ++ text last ≡ text (run_lines (named_of c) w.options r answer) =
+    append_assoc (text heads) (text told) (text last)
+    ∙ ap (λ (z : List ℕ). text heads ++ z) (sym (text_append told last))
+    ∙ sym (text_append heads (told ++ last))
+    ∙ ap text (run_lines_are c w.options r answer events e) in
+    ap (λ (z : List ℕ). ((text heads ++ z) ++ text last) ++ text behind) (text_of_each (event_lines (names_of c) (counts_of c)) events)
+    ∙ ap (λ (z : List ℕ). z ++ text behind) lines
+    ∙ sym (text_append (run_lines (named_of c) w.options r answer) behind)
 
 -- ---- certificates
 run_answer_holds : (c : Contents) (o : Options) (told : Record) (a : Answer) → ((v : ℕ) → v < variables (model_form c) → IsUncrossed (limits (model_form c) v)) → length (model_form c).bounds ≡ variables (model_form c)
@@ -92,22 +106,26 @@ module _ (c : Contents) (form : ProgramForm) (is : form_of form ≡ model_form c
   whole : length (model_form c).bounds ≡ variables (model_form c)
   whole = ap length model_bounds.same ∙ model_bounds.by_variable
 
-  pub told_run : (options : Options) (status : Status) (written : List ℕ) (answer : Solved) (events : List Event) (t : IsTold (model_form c) options answer events) → HasStatus t.given status
-      → written ≡ begun_text c events ++ text (answer_lines (named_of c) t.given) → AnswersRun c options status written
-  told_run options status written answer events t k e = record {
+  pub told_run : (wish : Wish) (status : Status) (written : List ℕ) (answer : Solved) (events : List Event) (t : IsTold (model_form c) wish.options answer events) → HasStatus t.given status
+      → written ≡ (begun_text c events ++ text (answer_lines (named_of c) t.given)) ++ text (ranges_behind c wish.ranging t.given) → AnswersRun c wish status written
+  told_run wish status written answer events t k e = record {
     told = t.run.record_of;
     answer = t.given;
     run = t.run.run;
     has_status = k;
-    written_is = e ∙ run_text_is c options t.run.record_of t.given events t.run.whole;
+    written_is = e ∙ run_text_is c wish t.run.record_of t.given events t.run.whole;
   }
+
+  -- the answer of each run of the form holds
+  pub runs_truly : (options : Options) → RunsTruly c options
+  runs_truly options = λ told a run. run_answer_holds c options told a uncrossed whole run
 
   -- the form has one run, so what is known of the answer that was told is known of its answer
   pub told_sound : (options : Options) (answer : Solved) (events : List Event) (t : IsTold (model_form c) options answer events) → IsCertified c t.given → RunsSoundly c options
   told_sound options answer events t certified = λ widths told a run.
       let same : t.given ≡ a = (run_only (model_form c) options t.run.record_of told t.given a t.run.run run).1 in
       record {
-        holds = run_answer_holds c options told a uncrossed whole run;
+        holds = runs_truly options told a run;
         certified = subst (IsCertified c) same certified;
       }
 
@@ -118,28 +136,17 @@ module _ (c : Contents) (form : ProgramForm) (is : form_of form ≡ model_form c
       subst (λ f. IsTold f options answer told) is
       (record { given = a; run = subst (λ es. IsRunBehind (form_of form) options [] es a) (sym (goes [] e)) run; is = given.is })
 
--- an answer is written with the lines of its run
-pub told_model : (c : Contents) (options : Options) (answer : Solved) (events : List Event) (r : Result Answered OutOfMemory) → IsTold (model_form c) options answer events
-    → IfOk r (λ a. (options : Options) → IsTold (model_form c) options answer events → AnswersRun c options a.status a.text.items) → IfOk r (λ a. AnswersRun c options a.status a.text.items)
-told_model c options answer events (Ok a) t h = h options t
-told_model c options answer events (Err x) t h = tt
-
-pub told_soundly : (c : Contents) (options : Options) (answer : Solved) (events : List Event) (r : Result Answered OutOfMemory) → IsTold (model_form c) options answer events
-    → OnOk r ((options : Options) → IsTold (model_form c) options answer events → RunsSoundly c options) → OnOk r (RunsSoundly c options)
-told_soundly c options answer events (Ok a) t h = h options t
-told_soundly c options answer events (Err x) t h = tt
-
 -- ---- widths
-pub wide_model : (c : Contents) (options : Options) (box : WideBox) (r : Result Answered OutOfMemory) → first_wide (model_form c).bounds ≡ Some box → IfOk r (λ a. a.status ≡ statuses.File) → IfOk r (λ a. a.text.items ≡ wide_text c box.variable)
-    → IfOk r (λ a. AnswersModel c options a.status a.text.items)
-wide_model c options box (Ok a) first e w = inr (record { box = box; first = first; status_is = e; written_is = w })
-wide_model c options box (Err x) first e w = tt
+pub wide_model : (c : Contents) (wish : Wish) (box : WideBox) (r : Result Answered OutOfMemory) → first_wide (model_form c).bounds ≡ Some box → IfOk r (λ a. a.status ≡ statuses.File) → IfOk r (λ a. a.text.items ≡ wide_text c box.variable)
+    → IfOk r (λ a. AnswersModel c wish a.status a.text.items)
+wide_model c wish box (Ok a) first e w = inr (record { box = box; first = first; status_is = e; written_is = w })
+wide_model c wish box (Err x) first e w = tt
 
 -- and then the model has no run
 pub wide_soundly : (c : Contents) (options : Options) (box : WideBox) (r : Result Answered OutOfMemory) → first_wide (model_form c).bounds ≡ Some box → OnOk r (RunsSoundly c options)
 wide_soundly c options box (Ok a) first = λ widths told answer run. absurd (let e = sym widths ∙ first in cc)
 wide_soundly c options box (Err x) first = tt
 
-pub fitting_model : (c : Contents) (options : Options) (r : Result Answered OutOfMemory) → first_wide (model_form c).bounds ≡ None → IfOk r (λ a. AnswersRun c options a.status a.text.items) → IfOk r (λ a. AnswersModel c options a.status a.text.items)
-fitting_model c options (Ok a) fits h = inl (record { widths = fits; run = h })
-fitting_model c options (Err x) fits h = tt
+pub fitting_model : (c : Contents) (wish : Wish) (r : Result Answered OutOfMemory) → first_wide (model_form c).bounds ≡ None → IfOk r (λ a. AnswersRun c wish a.status a.text.items) → IfOk r (λ a. AnswersModel c wish a.status a.text.items)
+fitting_model c wish (Ok a) fits h = inl (record { widths = fits; run = h })
+fitting_model c wish (Err x) fits h = tt

@@ -19,6 +19,7 @@ use Rattle.pami_cert.specs.Sized.{IsSized}
 use Rattle.pami_cert.specs.CertText.{Fits}
 use Rattle.pami_cli.specs.CertOf.{cert_of}
 use Rattle.pami_cli.specs.Text.{run_text, wide_text}
+use Rattle.pami_cli.specs.declared.wish.Wish.{Wish}
 
 -- the status that goes with an answer
 abbrev pub HasStatus : Answer → Status → Type 0
@@ -51,23 +52,27 @@ pub record IsSound (c : Contents) (answer : Answer) : Type 0 where
   pub holds : HoldsFor c answer
   pub certified : IsCertified c answer
 
+-- what the run of the model's form is answered holds
+abbrev pub RunsTruly : Contents → Options → Type 0
+RunsTruly c options = (told : Record) (answer : Answer) → IsRun (model_form c) options told answer → HoldsFor c answer
+
 -- what the run of the model's form is answered is sound, where every width fits
 abbrev pub RunsSoundly : Contents → Options → Type 0
 RunsSoundly c options =
     first_wide (model_form c).bounds ≡ None → (told : Record) (answer : Answer) → IsRun (model_form c) options told answer → IsSound c answer
 
 -- the run of the model's form
-pub record AnswersRun (c : Contents) (options : Options) (status : Status) (written : List ℕ) : Type 0 where
+pub record AnswersRun (c : Contents) (wish : Wish) (status : Status) (written : List ℕ) : Type 0 where
   pub told : Record
   pub answer : Answer
-  pub run : IsRun (model_form c) options told answer
+  pub run : IsRun (model_form c) wish.options told answer
   pub has_status : HasStatus answer status
-  pub written_is : written ≡ run_text c options told answer
+  pub written_is : written ≡ run_text c wish told answer
 
 -- every width of the form fits
-pub record AnswersFitting (c : Contents) (options : Options) (status : Status) (written : List ℕ) : Type 0 where
+pub record AnswersFitting (c : Contents) (wish : Wish) (status : Status) (written : List ℕ) : Type 0 where
   pub widths : first_wide (model_form c).bounds ≡ None
-  pub run : AnswersRun c options status written
+  pub run : AnswersRun c wish status written
 
 -- a width doesn't fit: the model is refused at the least such variable
 pub record AnswersWide (c : Contents) (status : Status) (written : List ℕ) : Type 0 where
@@ -77,5 +82,5 @@ pub record AnswersWide (c : Contents) (status : Status) (written : List ℕ) : T
   pub written_is : written ≡ wide_text c box.variable
 
 -- a status and a whole text
-abbrev pub AnswersModel : Contents → Options → Status → List ℕ → Type 0
-AnswersModel c options status written = AnswersFitting c options status written ⊎ AnswersWide c status written
+abbrev pub AnswersModel : Contents → Wish → Status → List ℕ → Type 0
+AnswersModel c wish status written = AnswersFitting c wish status written ⊎ AnswersWide c status written

@@ -5,5 +5,7 @@ pub mod Reading
 pub mod CertOf
 pub mod Answer
 pub mod Judged
+pub mod Summary
+pub mod Trial
 pub mod Run
 pub mod Taken

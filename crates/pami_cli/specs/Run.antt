@@ -1,9 +1,9 @@
 -- What a run answers on the words of a call and the bytes under the names of its files, and how a call may end.
-use Rattle.std.specs.Prelude.{◌≡◌, ℕ, ◌⊎◌, Bool, List, [], ◌∷◌, ◌++◌, None, Ok, Err}
-use Rattle.pami_edge.specs.Outside.{HasFile}
+use Rattle.std.specs.Prelude.{◌≡◌, ℕ, ◌⊎◌, Bool, List, [], ◌∷◌, ◌++◌, Option, None, Some, IfSome, Ok, Err}
+use Rattle.pami_edge.specs.Outside.{Files, HasFile}
 use Rattle.pami_edge.specs.Calls.{ShelfCall, SinkCall, ShelfFailed, SinkFailed, Wrote, WrotePart, WroteNothing}
 use Rattle.pami_words.specs.declared.command.Command.{Command}
-use Rattle.pami_words.specs.declared.command.Command.TheVariants.{Solve, Check}
+use Rattle.pami_words.specs.declared.command.Command.TheVariants.{Solve, Check, Trial}
 use Rattle.pami_words.specs.Words.{read_outcome}
 use Rattle.pami_method.specs.declared.words.Options.{Options}
 use Rattle.pami_model.specs.declared.fault.FileFault.{FileFault}
@@ -15,6 +15,8 @@ use Rattle.pami_cli.specs.declared.status.Status.TheVariants.{Good, Words, File,
 use Rattle.pami_cli.specs.Reading.{Format, format_by, IsTextOf, IsFirstFaultOf}
 use Rattle.pami_cli.specs.Answer.{AnswersModel, AnswersWide, RunsSoundly}
 use Rattle.pami_cli.specs.Judged.{Judges}
+use Rattle.pami_cli.specs.Trial.{AnswersTrial, TrialHolds}
+use Rattle.pami_cli.specs.declared.wish.Wish.{Wish}
 use Rattle.pami_cli.specs.Text.{bad_words_text, refused_text, read_fault_text}
 
 -- ---- reading
@@ -28,10 +30,10 @@ pub record TellsReadFault (shelf : ShelfCall) (status : Status) (written : List 
 -- ---- solve
 
 -- the bytes are a text of a model that is answered so
-pub record IsModelAnswer (format : Format) (bytes : List ℕ) (options : Options) (status : Status) (written : List ℕ) : Type 0 where
+pub record IsModelAnswer (format : Format) (bytes : List ℕ) (wish : Wish) (status : Status) (written : List ℕ) : Type 0 where
   pub model : Contents
   pub text_of : IsTextOf format bytes model
-  pub answer : AnswersModel model options status written
+  pub answer : AnswersModel model wish status written
 
 -- the bytes have a first fault, and are refused at it
 pub record IsRefused (format : Format) (bytes : List ℕ) (status : Status) (written : List ℕ) : Type 0 where
@@ -40,10 +42,10 @@ pub record IsRefused (format : Format) (bytes : List ℕ) (status : Status) (wri
   pub status_is : status ≡ File
   pub written_is : written ≡ refused_text fault
 
--- what `solve` answers on the bytes of FILE, read in this format, with these options
-abbrev pub Answers : Format → List ℕ → Options → Status → List ℕ → Type 0
-Answers format bytes options status written =
-    IsModelAnswer format bytes options status written ⊎ IsRefused format bytes status written
+-- what `solve` answers on the bytes of FILE, read in this format, with these options and with ranges where they are wanted
+abbrev pub Answers : Format → List ℕ → Wish → Status → List ℕ → Type 0
+Answers format bytes wish status written =
+    IsModelAnswer format bytes wish status written ⊎ IsRefused format bytes status written
 
 -- and what the run of its model is answered is sound
 abbrev pub SolvesSoundly : Format → List ℕ → Options → Type 0
@@ -105,27 +107,42 @@ AreBad words = read_outcome words ≡ Err (record {})
 
 -- the names of the files that a command reads, in this order
 abbrev pub files_of : Command → List (List ℕ)
-files_of (Solve file lp options) = file ∷ []
+files_of (Solve file lp options ranging) = file ∷ []
 files_of (Check file cert lp) = file ∷ cert ∷ []
+files_of (Trial seed sources sinks) = []
 
--- the name of FILE, and the format that it is read in
-abbrev pub file_of : Command → List ℕ
-file_of (Solve file lp options) = file
-file_of (Check file cert lp) = file
+-- FILE: its name, and the format that it is read in
+pub record ModelFile : Type 0 where
+  pub name : List ℕ
+  pub format : Format
 
-abbrev pub format_of : Command → Format
-format_of (Solve file lp options) = format_by lp
-format_of (Check file cert lp) = format_by lp
+-- FILE of a command, if it reads one
+abbrev pub file_of : Command → Option ModelFile
+file_of (Solve file lp options ranging) = Some (record { name = file; format = format_by lp })
+file_of (Check file cert lp) = Some (record { name = file; format = format_by lp })
+file_of (Trial seed sources sinks) = None
 
--- what a command answers on the bytes of FILE; `under` says which bytes stand under which name
+-- these bytes stand under the name of FILE, where the command reads one
+abbrev pub HasBytes : Option Files → Command → List ℕ → Type 0
+HasBytes files command bytes = IfSome (file_of command) (λ (file : ModelFile). HasFile files file.name bytes)
+
+-- what a run is asked for
+abbrev pub wish_of : Options → Bool → Wish
+wish_of options ranging = record { options = options; ranging = ranging }
+
+-- what a command answers on the bytes of FILE; `under` says which bytes stand under which name. A trial has no FILE.
 abbrev pub CommandAnswers : Command → List ℕ → (List ℕ → List ℕ → Type 0) → Status → List ℕ → Type 0
-CommandAnswers (Solve file lp options) bytes under status written = Answers (format_by lp) bytes options status written
+CommandAnswers (Solve file lp options ranging) bytes under status written =
+    Answers (format_by lp) bytes (wish_of options ranging) status written
 CommandAnswers (Check file cert lp) bytes under status written = Checks (format_by lp) bytes (under cert) status written
+CommandAnswers (Trial seed sources sinks) bytes under status written = AnswersTrial seed sources sinks status written
 
--- what `solve` answers on the bytes of FILE is sound; a judgement says itself what it is worth
+-- what `solve` answers on the bytes of FILE is sound, and what `trial` tells holds against the model that it draws; a
+-- judgement says itself what it is worth
 abbrev pub AnswersSoundly : Command → List ℕ → Type 0
-AnswersSoundly (Solve file lp options) bytes = SolvesSoundly (format_by lp) bytes options
+AnswersSoundly (Solve file lp options ranging) bytes = SolvesSoundly (format_by lp) bytes options
 AnswersSoundly (Check file cert lp) bytes = Unit {0}
+AnswersSoundly (Trial seed sources sinks) bytes = TrialHolds seed sources sinks
 
 -- ---- calls
 
@@ -138,12 +155,12 @@ pub record Call : Type 0 where
 abbrev pub call : List (List ℕ) → ShelfCall → SinkCall → Call
 call words shelf sink = record { words = words; shelf = shelf; sink = sink }
 
--- the words ask for a command, and this is its answer on bytes that stand under the names of its files; it is sound
+-- the words ask for a command, and this is its answer on bytes that stand under the names of its files, if any; it is sound
 pub record IsAnswered (call : Call) (status : Status) (written : List ℕ) : Type 0 where
   pub command : Command
   pub bytes : List ℕ
   pub asks : AskFor call.words command
-  pub under : HasFile call.shelf.files (file_of command) bytes
+  pub under : HasBytes call.shelf.files command bytes
   pub answer : CommandAnswers command bytes (HasFile call.shelf.files) status written
   pub sound : AnswersSoundly command bytes
 
@@ -190,11 +207,13 @@ IsComplete call result = (result ≡ OutOfMemory) ⊎ ((written : List ℕ) × I
 -- the words ask for a command whose FILE is refused, on bytes that stand under its name, and this was written
 pub record IsFileRefused (call : Call) : Type 0 where
   pub command : Command
+  pub file : ModelFile
   pub bytes : List ℕ
   pub written : List ℕ
   pub asks : AskFor call.words command
-  pub under : HasFile call.shelf.files (file_of command) bytes
-  pub refuses : Refuses (format_of command) bytes written
+  pub reads : file_of command ≡ Some file
+  pub under : HasFile call.shelf.files file.name bytes
+  pub refuses : Refuses file.format bytes written
   pub wrote : Wrote call.sink written
 
 -- the words ask for `check`, its FILE is accepted, and CERT was answered with this status, on bytes that stand under their names

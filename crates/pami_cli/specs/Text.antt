@@ -1,5 +1,5 @@
 -- The texts that a run writes.
-use Rattle.std.specs.Prelude.{ℕ, List, [], ◌∷◌, ◌++◌, Option, None, Some, codes, decimal}
+use Rattle.std.specs.Prelude.{ℕ, Bool, List, [], ◌∷◌, ◌++◌, Option, None, Some, codes, decimal, if◌then◌else◌}
 use Rattle.std.specs.List.{flat_map}
 use Rattle.pami_algebra.specs.Fraction.{Fraction}
 use Rattle.pami_linear.specs.Lists.{get}
@@ -8,8 +8,7 @@ use Rattle.pami_model.specs.declared.fault.FileFault.{FileFault}
 use Rattle.pami_model.specs.KindWords.{kind_word}
 use Rattle.pami_model.specs.Contents.{Contents}
 use Rattle.pami_theory.specs.Basis.{Basis, stand_at}
-use Rattle.pami_method.specs.declared.words.Options.{Options}
-use Rattle.pami_method.specs.Phases.{Record, Answer}
+use Rattle.pami_method.specs.Phases.{Record, Answer, Optimal, Infeasible, DualInfeasible, Limit, Overflow}
 use Rattle.pami_lines.specs.Line.{line, text}
 use Rattle.pami_lines.specs.Words.{operation_word}
 use Rattle.pami_lines.specs.Head.{head_lines}
@@ -25,12 +24,22 @@ use Rattle.pami_cert.specs.CertKinds.{cert_kind_word}
 use Rattle.pami_check.specs.declared.verdict.Verdict.{Verdict}
 use Rattle.pami_check.specs.declared.verdict.Verdict.TheVariants.{Valid, Invalid, Refused}
 use Rattle.pami_check.specs.ConditionWords.{condition_word}
+use Rattle.pami_range.specs.RangeLines.{range_lines}
+use Rattle.pami_cli.specs.declared.wish.Wish.{Wish}
 
 -- ---- solve
 
+-- the lines of the ranges, which stand behind an optimal answer where they are wanted
+abbrev pub ranges_behind : Contents → Bool → Answer → List (List (List ℕ))
+ranges_behind c wanted (Optimal st s) = if wanted then range_lines c st.basis s else []
+ranges_behind c wanted (Infeasible y) = []
+ranges_behind c wanted (DualInfeasible st s) = []
+ranges_behind c wanted (Limit st) = []
+ranges_behind c wanted (Overflow refused) = []
+
 -- the text of a run
-abbrev pub run_text : Contents → Options → Record → Answer → List ℕ
-run_text c o told answer = text (run_lines (named_of c) o told answer)
+abbrev pub run_text : Contents → Wish → Record → Answer → List ℕ
+run_text c w told answer = text (run_lines (named_of c) w.options told answer ++ ranges_behind c w.ranging answer)
 
 -- the first lines of a run, up to its answer, from the events that are told of it
 abbrev pub begun_text : Contents → List Event → List ℕ

@@ -3,7 +3,6 @@
 ghost use Rattle.std.specs.Prelude.{◌≡◌, ◌++◌, ℕ, IfOk, OnOk};
 ghost use Rattle.pami_model.specs.Contents.{contents};
 ghost use Rattle.pami_theory.specs.Form as theory;
-ghost use Rattle.pami_method.specs.declared.words.Options.{Options};
 ghost use Rattle.pami_method.specs.Phases as phases;
 ghost use Rattle.pami_model_form.specs.ModelForm.{model_form};
 ghost use Rattle.pami_model_form.specs.Named.{named_of};
@@ -12,12 +11,15 @@ ghost use Rattle.pami_text.specs.Record.{answer_lines};
 ghost use Rattle.pami_form.specs.FormOf.{form_of as form_for};
 ghost use Rattle.pami_phase.specs.Runs.{IsAnswerOf};
 ghost use Rattle.pami_cli.specs.Solved.{IsReadable, IsTold};
+ghost use Rattle.pami_cli.specs.Text.{ranges_behind};
 ghost use Rattle.pami_cli.specs.Answer.{HasStatus, IsCertified, RunsSoundly, AnswersRun};
 
 use crate::print::{
     begun, push_dual_infeasible, push_infeasible, push_limit, push_optimal, push_overflow,
 };
+use crate::ranges::push_range_lines;
 use crate::status::Status;
+use crate::wish::Wish;
 use pami_form::Form;
 use pami_frac::OutOfMemory;
 use pami_log::Event;
@@ -33,7 +35,7 @@ pub struct Answer {
 }
 
 /// The status that goes with the answer of a form.
-fn status_of(answer: &Solved) -> Status
+pub fn status_of(answer: &Solved) -> Status
     ensures { (f : theory.Form) (a : phases.Answer) → IsAnswerOf f answer.now a → HasStatus a result }
 {
     match answer {
@@ -45,7 +47,7 @@ fn status_of(answer: &Solved) -> Status
     }
 }
 
-/// The last lines of a run, from the answer on the model's form.
+/// The last lines of a run, from the answer on the model's form; the ranges behind an optimal one are written by themselves.
 ///
 /// # Errors
 ///
@@ -79,6 +81,39 @@ fn push_answer(
     }
 }
 
+/// The lines of the ranges, where they are wanted and the answer is optimal.
+///
+/// # Errors
+///
+/// `OutOfMemory` alone.
+fn push_wanted(
+    alloc: Global,
+    out: &mut Vec<u8>,
+    model: &Model,
+    form: &Form,
+    answer: &Solved,
+    wanted: bool,
+) -> Result<(), OutOfMemory>
+    requires form { form_for form.now ≡ model_form (contents model.now) }
+    requires readable { IsReadable (model_form (contents model.now)) answer.now }
+    ensures { OnOk result ((a : phases.Answer) → IsAnswerOf (model_form (contents model.now)) answer.now a
+        → out.new.items ≡ out.old.items ++ text (ranges_behind (contents model.now) wanted a)) }
+{
+    match answer {
+        Solved::Optimal { state, factor: _ } => {
+            if wanted {
+                push_range_lines(alloc, out, model, form, state)
+            } else {
+                Ok(())
+            }
+        }
+        Solved::Infeasible { .. } => Ok(()),
+        Solved::DualInfeasible { .. } => Ok(()),
+        Solved::Limit { .. } => Ok(()),
+        Solved::Overflow(_) => Ok(()),
+    }
+}
+
 /// What a model is answered from the answer on its form and the events that were told of the run there.
 ///
 /// # Errors
@@ -88,19 +123,18 @@ pub fn told_answer(
     alloc: Global,
     model: &Model,
     form: &Form,
+    wish: Wish,
     answer: &Solved,
     events: &[Event],
 ) -> Result<Answer, OutOfMemory>
     requires form { form_for form.now ≡ model_form (contents model.now) }
-    requires readable { IsReadable (model_form (contents model.now)) answer.now }
-    ensures answer { IfOk result (λ a. (options : Options)
-        → IsTold (model_form (contents model.now)) options answer.now events.now
-        → AnswersRun (contents model.now) options a.status a.text.items) }
-    ensures sound { OnOk result ((options : Options)
-        → IsTold (model_form (contents model.now)) options answer.now events.now → RunsSoundly (contents model.now) options) }
+    requires told { IsTold (model_form (contents model.now)) wish.options answer.now events.now }
+    ensures answer { IfOk result (λ a. AnswersRun (contents model.now) wish a.status a.text.items) }
+    ensures sound { OnOk result (RunsSoundly (contents model.now) wish.options) }
 {
     let mut text = begun(alloc, model, events)?;
     push_answer(alloc, &mut text, model, form, answer)?;
+    push_wanted(alloc, &mut text, model, form, answer, wish.ranging)?;
     Ok(Answer {
         status: status_of(answer),
         text,

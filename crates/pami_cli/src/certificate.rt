@@ -41,7 +41,7 @@ fn with_product(t: Frac, cost: Frac, value: Frac) -> Option<Frac>
 }
 
 /// The constant and the sum of the costs times the values, columns ascending. None where an operation doesn't fit.
-fn told_objective(constant: Frac, columns: &[Column], values: &[Frac]) -> Option<Frac>
+pub fn told_objective(constant: Frac, columns: &[Column], values: &[Frac]) -> Option<Frac>
     requires { length columns.now ≤ length values.now }
     ensures fits { MayFit result }
     ensures sum { result ≡ kept_or_none (add_dot (length columns.now) (λ j. member (λ column. column.cost) zero_f columns.now j) (get values.now) constant) }

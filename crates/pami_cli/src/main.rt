@@ -1,6 +1,6 @@
-//! The program: what the words of a call ask for, read, solved or checked, and written.
+//! The program: what the words of a call ask for, read or drawn, solved or checked, and written.
 //!
-//! Stands on all crates of the solver, the checker, the words and the files. `run_plain` is the whole of it, over a shelf of named
+//! Stands on all crates of the solver, the ranges, the checker, the words, the files and the trials' models. `run_plain` is the whole of it, over a shelf of named
 //! files and a sink, and carries the theorem from bytes to bytes; `main` hands it the words, the files and the output
 //! of the machine.
 #![tactic(auto)]
@@ -19,14 +19,22 @@ mod drawn_tests;
 mod lp_tests;
 mod output;
 mod print;
+#[cfg(test)]
+mod range_tests;
+mod ranges;
 mod reading;
 mod refuse;
 mod run;
 mod solve;
 mod status;
+mod summary;
 #[cfg(test)]
 mod tests;
+mod trial;
+#[cfg(test)]
+mod trial_tests;
 mod verdict;
+mod wish;
 
 ghost use Rattle.std.specs.Prelude.{◌≡◌};
 ghost use Rattle.std.specs.Process.{exit_status};

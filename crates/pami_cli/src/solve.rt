@@ -9,50 +9,45 @@ ghost use Rattle.pami_cli.specs.Answer.{RunsSoundly, AnswersRun, AnswersModel};
 
 use crate::answer::{Answer, told_answer};
 use crate::refuse::refused_width;
+use crate::wish::Wish;
 use pami_form::{Form, form_of};
 use pami_frac::{Fault, OutOfMemory};
 use pami_log::ListTeller;
 use pami_lu::Steps;
-use pami_major::Options;
 use pami_model::Model;
 use pami_phase::solve;
 use std::alloc::Global;
 
-/// What a model of this form is answered with these options.
-fn form_answer(
-    alloc: Global,
-    model: &Model,
-    form: &Form,
-    options: Options,
-) -> Result<Answer, OutOfMemory>
-    requires options { IsOptions options }
+/// What a model of this form is answered.
+fn form_answer(alloc: Global, model: &Model, form: &Form, wish: Wish) -> Result<Answer, OutOfMemory>
+    requires options { IsOptions wish.options }
     requires form { form_for form.now ≡ model_form (contents model.now) }
-    ensures answer { IfOk result (λ a. AnswersRun (contents model.now) options a.status a.text.items) }
-    ensures sound { OnOk result (RunsSoundly (contents model.now) options) }
+    ensures answer { IfOk result (λ a. AnswersRun (contents model.now) wish a.status a.text.items) }
+    ensures sound { OnOk result (RunsSoundly (contents model.now) wish.options) }
 {
     let mut teller = ListTeller::new(alloc)?;
     // Nobody asks for the count.
     let mut steps = Steps::<()>::new();
-    match solve(alloc, form, &options, &mut teller, &mut steps) {
-        Ok(answer) => told_answer(alloc, model, form, &answer, teller.events()),
+    match solve(alloc, form, &wish.options, &mut teller, &mut steps) {
+        Ok(answer) => told_answer(alloc, model, form, wish, &answer, teller.events()),
         // A list never fails to be told.
         Err(Fault::Named(_)) => unreachable!(),
         Err(Fault::OutOfMemory) => Err(OutOfMemory),
     }
 }
 
-/// What a model is answered with these options.
+/// What a model is answered.
 ///
 /// # Errors
 ///
 /// `OutOfMemory` alone.
-pub fn model_answer(alloc: Global, model: &Model, options: Options) -> Result<Answer, OutOfMemory>
-    requires options { IsOptions options }
-    ensures answer { IfOk result (λ a. AnswersModel (contents model.now) options a.status a.text.items) }
-    ensures sound { OnOk result (RunsSoundly (contents model.now) options) }
+pub fn model_answer(alloc: Global, model: &Model, wish: Wish) -> Result<Answer, OutOfMemory>
+    requires options { IsOptions wish.options }
+    ensures answer { IfOk result (λ a. AnswersModel (contents model.now) wish a.status a.text.items) }
+    ensures sound { OnOk result (RunsSoundly (contents model.now) wish.options) }
 {
     match form_of(alloc, model) {
-        Ok(form) => form_answer(alloc, model, &form, options),
+        Ok(form) => form_answer(alloc, model, &form, wish),
         Err(Fault::Named(wide)) => refused_width(alloc, model, wide.variable),
         Err(Fault::OutOfMemory) => Err(OutOfMemory),
     }

@@ -3,6 +3,7 @@
 use super::run_plain;
 use crate::solve::model_answer;
 use crate::status::Status;
+use crate::wish::Wish;
 use pami_edge::{MemoryShelf, MemorySink, Word};
 use pami_frac::{Bounds, Frac};
 use pami_major::Options;
@@ -575,7 +576,11 @@ fn a_row_may_be_too_wide(rt: HostRuntime) -> Result<(), Fail> {
         refactor: 16,
         limit: 0,
     };
-    let answer = model_answer(alloc, &model, options)?;
+    let wish = Wish {
+        options,
+        ranging: false,
+    };
+    let answer = model_answer(alloc, &model, wish)?;
     assert_eq!(rt; answer.status, Status::File);
     assert_eq!(rt; answer.text.as_slice(), b"refused 0 width r:r\n".as_slice());
     Ok(())

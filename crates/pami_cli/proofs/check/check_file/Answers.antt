@@ -2,6 +2,7 @@ use Rattle.std.proofs.Common.{◌≡◌, ℕ, List, refl, subst}
 use Rattle.pami_edge.specs.Calls.{shelf_call, sink_call}
 use Rattle.pami_cli.specs.Reading.{format_by}
 use Rattle.pami_cli.specs.Run.{EndsBy, IsCheckDue, Refuses}
+use Rattle.pami_cli.proofs.Runs.{ends_nowhere}
 use Rattle.pami_cli.proofs.CheckRuns.{same_shelf, ends_check, ends_long_file, asked_front, asked_one, asked_file}
 use Rattle.pami_cli.proofs.check.check_file.Goals as goal
 
@@ -39,3 +40,6 @@ returns-in-Ok-clause-file_first g c = λ files bytes written told stands refuses
     asked_file (g.S.Shelf.files c.args.shelf.now) files c.args.file c.in-Ok.bytes.items bytes format written (g.S.Shelf.asked c.args.shelf.now) mid new told
     c.in-Ok.ensures.whole stands c.requires.unasked c.read_whole.ensures.asked
     (subst (λ (x : List ℕ). (w : List ℕ) → Refuses format x w → new ≡ mid) c.as_slice.ensures.value c.check_bytes.ensures.refused) refuses
+
+pub returns-clause-ends : goal.returns-clause-ends
+returns-clause-ends g c = λ words asks. ends_nowhere words _ (g.K.Sink.told c.args.out.now) _ _
