@@ -37,6 +37,13 @@ def test_show_others(program: str, examples: Path, capsys: pytest.CaptureFixture
     assert due in capsys.readouterr().out
 
 
+def test_show_ranges(ranger: str, examples: Path, capsys: pytest.CaptureFixture[str]) -> None:
+    assert main(["show", str(examples / "diet.mps"), "--program", ranger, "--ranging", "--digits", "1"]) == 0
+    lines = [line.split() for line in capsys.readouterr().out.splitlines()]
+    assert ["bread", "~23.3", "70/3", "~28.3", "85/3"] in lines
+    assert ["r:protein", "10", "~9.8", "108/11", "~11.3", "45/4"] in lines
+
+
 def test_json(program: str, examples: Path, capsys: pytest.CaptureFixture[str]) -> None:
     assert main(["json", str(examples / "diet.mps"), "--program", program, "--limit", "2"]) == 0
     assert json.loads(capsys.readouterr().out)["status"] == "limit"

@@ -127,6 +127,8 @@ def test_text_and_json(program: str) -> None:
         "reduced_cost": "0",
         "own_reduced_cost": "0",
         "stand": "B",
+        "cost_range": None,
+        "bound_range": None,
     }
     assert told["rows"][0]["own_dual"] == "3/4"
     assert {"event": "Phase", "number": 1} in told["events"]

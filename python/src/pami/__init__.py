@@ -1,9 +1,9 @@
 """Exact linear programming from Python.
 
 `solve` calls the program pami on a model and reads its answer; `check` has the program judge a certificate; `verify`
-judges one here, with unbounded fractions and readers of its own; `sweep` solves many models; `plot` draws a run, and
-`report` makes a page of an answer. All numbers are `fractions.Fraction`. Errors are `PamiError`, each with its own
-name.
+judges one here, with unbounded fractions and readers of its own; `sweep` solves many models; `trial` has the program
+draw one and solve it; `plot` draws a run, and `report` makes a page of an answer. All numbers are
+`fractions.Fraction`. Errors are `PamiError`, each with its own name.
 """
 
 from .answer import (
@@ -54,10 +54,12 @@ from .errors import (
 from .model import Model
 from .page import report
 from .picture import plot
-from .program import check, find_program, solve
+from .program import check, find_program, solve, trial
+from .ranges import End, Range
 from .replay import Mark, Point, Round, Trace, trace
 from .scenarios import Scenario, sweep
 from .source import read_model
+from .summary import Trial, read_trial
 from .verdict import Verdict
 
 __all__ = [
@@ -67,6 +69,7 @@ __all__ = [
     "Conflict",
     "Drop",
     "DualInfeasible",
+    "End",
     "Event",
     "Explanation",
     "Flip",
@@ -92,6 +95,7 @@ __all__ = [
     "Pivot",
     "Point",
     "ProgramMissing",
+    "Range",
     "ReadFault",
     "Refused",
     "Result",
@@ -104,6 +108,7 @@ __all__ = [
     "TextFault",
     "TookTooLong",
     "Trace",
+    "Trial",
     "UnknownPicture",
     "Verdict",
     "WriteFault",
@@ -113,8 +118,10 @@ __all__ = [
     "plot",
     "read_model",
     "read_result",
+    "read_trial",
     "report",
     "solve",
     "sweep",
     "trace",
+    "trial",
 ]

@@ -75,6 +75,7 @@ def words() -> argparse.ArgumentParser:
         command.add_argument("--batch", type=int, metavar="S", help="the most rows of a batch")
         command.add_argument("--refactor", type=int, metavar="R", help="the most pivots that a factor is kept for")
         command.add_argument("--limit", type=int, metavar="K", help="how many pivots are allowed")
+        command.add_argument("--ranging", action="store_true", help="how far costs and bounds may be moved")
     for command in (show, json, other):
         command.add_argument("--program", metavar="PATH", help="the program, if it isn't on the path nor named by PAMI")
     return parser
@@ -91,6 +92,7 @@ def result_of(given: argparse.Namespace) -> Result:
         batch=given.batch,
         refactor=given.refactor,
         limit=given.limit,
+        ranging=given.ranging,
         program=given.program,
     )
 

@@ -5,7 +5,7 @@ from __future__ import annotations
 import json
 import re
 from collections.abc import Mapping
-from dataclasses import dataclass, field
+from dataclasses import dataclass, field, replace
 from enum import StrEnum
 from fractions import Fraction
 from typing import Literal, NoReturn
@@ -23,6 +23,7 @@ from .errors import (
     TextFault,
 )
 from .model import Model, Sense
+from .ranges import End, Range
 
 Letter = Literal["B", "L", "U", "Z"]
 LETTERS: dict[str, Letter] = {"B": "B", "L": "L", "U": "U", "Z": "Z"}
@@ -107,7 +108,8 @@ Event = Phase | Major | Drop | Flip | Pivot | NoneEnters | Rollback
 @dataclass(frozen=True)
 class Column:
     """A column of an optimal answer. `reduced_cost` is as minimised, `own_reduced_cost` in the sense of the file: how
-    much the objective grows with a unit more of it. `stand` is its letter in the basis.
+    much the objective grows with a unit more of it. `stand` is its letter in the basis. Where ranging was asked for,
+    `cost_range` is that of its cost in the file, and `bound_range` that of the bound at which it stands, if it does.
     """
 
     name: str
@@ -115,6 +117,8 @@ class Column:
     reduced_cost: Fraction
     own_reduced_cost: Fraction
     stand: Letter
+    cost_range: Range | None = None
+    bound_range: Range | None = None
 
     def decimal(self, digits: int = 6) -> str:
         return decimal(self.value, digits)
@@ -123,7 +127,8 @@ class Column:
 @dataclass(frozen=True)
 class Row:
     """A row of an optimal answer. `dual` is as minimised, `own_dual` in the sense of the file: how much the objective
-    grows with a unit more on the right-hand side. `stand` is its letter in the basis.
+    grows with a unit more on the right-hand side. `stand` is its letter in the basis. Where ranging was asked for,
+    `bound_range` is that of the side at which it stands, if it does.
     """
 
     name: str
@@ -131,6 +136,7 @@ class Row:
     dual: Fraction
     own_dual: Fraction
     stand: Letter
+    bound_range: Range | None = None
 
     def decimal(self, digits: int = 6) -> str:
         return decimal(self.value, digits)
@@ -210,6 +216,23 @@ class Result:
         return self.status is Status.OPTIMAL
 
     @property
+    def variables(self) -> dict[str, Column | Row]:
+        """The columns and rows of an optimal answer by name, as `x:bread` and `r:energy`."""
+        named: dict[str, Column | Row] = {f"x:{column.name}": column for column in self.columns}
+        return named | {f"r:{row.name}": row for row in self.rows}
+
+    @property
+    def cost_ranges(self) -> dict[str, Range]:
+        """How far the cost of each column may be moved, where ranging was asked for."""
+        return {column.name: column.cost_range for column in self.columns if column.cost_range is not None}
+
+    @property
+    def bound_ranges(self) -> dict[str, Range]:
+        """How far the bound may be moved at which a column or row stands, as `x:bread` and `r:energy`."""
+        told = self.variables.items()
+        return {variable: it.bound_range for variable, it in told if it.bound_range is not None}
+
+    @property
     def pivots(self) -> int:
         return sum(isinstance(event, Pivot) for event in self.events)
 
@@ -253,7 +276,7 @@ class Result:
         return {column.name: column.decimal(digits) for column in self.columns}
 
     def to_json(self, indent: int | None = None) -> str:
-        """All but the model and the text as JSON. Fractions are texts, as `-1/4`."""
+        """All but the model and the text as JSON. Fractions are texts, as `-1/4`, and ranges two of them."""
         told: dict[str, object] = {
             "status": self.status.value,
             "sense": self.sense,
@@ -271,7 +294,14 @@ class Result:
 
 
 def _told(record: object, **more: object) -> dict[str, object]:
-    return more | {name: str(it) if isinstance(it, Fraction) else it for name, it in vars(record).items()}
+    return more | {name: _shown(it) for name, it in vars(record).items()}
+
+
+def _shown(value: object) -> object:
+    """A number as a text, and a range as the texts of its ends."""
+    if isinstance(value, Range):
+        return list(value.ends())
+    return str(value) if isinstance(value, Fraction) else value
 
 
 def _bound(low: Fraction | None, high: Fraction | None, factor: Fraction) -> Fraction:
@@ -314,6 +344,18 @@ class _Lines:
         value = number(word)
         return self.fault() if value is None else value
 
+    def end(self, word: str, infinite: str) -> End:
+        """The end of a range."""
+        if word in (infinite, "wide"):
+            return None if word == infinite else "wide"
+        return self.number(word)
+
+    def goes_on(self, first: str) -> bool:
+        """Whether there is a next line with this first word, or the beginning of a line."""
+        if self.at == len(self.lines):
+            return False
+        return self.lines[self.at].split(" ")[0] == first or (self.at == len(self.lines) - 1 and not self.is_whole)
+
     def count(self, word: str) -> int:
         return int(word) if re.fullmatch("[0-9]+", word) else self.fault()
 
@@ -322,9 +364,11 @@ class _Lines:
             self.fault()
 
 
-def read_result(text: str, model: Model | None = None) -> Result:
+def read_result(text: str, model: Model | None = None, *, ranging: bool = False) -> Result:
     """The result that a text of `pami solve` tells. Without the model the sense is taken for a minimum, so the numbers
     in the sense of the file are those of a minimum, and a `wide` objective isn't known.
+
+    Ranges are read where they stand; with `ranging` an optimal answer without them was cut.
     """
     lines = _Lines(text)
     if lines.next() != ["pami", "1"]:
@@ -341,7 +385,7 @@ def read_result(text: str, model: Model | None = None) -> Result:
     while words[0] != "answer":
         events.append(_event(lines, words))
         words = lines.next()
-    return _Answer(lines, sizes, tuple(events), model).read(words, text)
+    return _Answer(lines, sizes, tuple(events), model, ranging).read(words, text)
 
 
 def _event(lines: _Lines, words: list[str]) -> Event:
@@ -372,6 +416,7 @@ class _Answer:
     sizes: tuple[int, int, int]
     events: tuple[Event, ...]
     model: Model | None
+    has_ranges: bool
 
     def read(self, words: list[str], text: str) -> Result:
         """The result of a text whose line `answer` has these words."""
@@ -470,4 +515,28 @@ class _Answer:
                 columns.append(Column(name, value, price, sign * price, stand))
             else:
                 rows.append(Row(name, value, price, sign * price, stand))
+        if self.has_ranges or self.lines.goes_on("range"):
+            return self.ranged(columns, rows)
         return tuple(columns), tuple(rows)
+
+    def ranged(self, columns: list[Column], rows: list[Row]) -> tuple[tuple[Column, ...], tuple[Row, ...]]:
+        """The same with the ranges of all costs, and of the bounds of what stands at one."""
+        costs = [self.range("cost", column.name) for column in columns]
+        bounds = [self.bound(f"x:{column.name}", column.stand) for column in columns]
+        return (
+            tuple(
+                replace(column, cost_range=cost, bound_range=bound)
+                for column, cost, bound in zip(columns, costs, bounds, strict=True)
+            ),
+            tuple(replace(row, bound_range=self.bound(f"r:{row.name}", row.stand)) for row in rows),
+        )
+
+    def bound(self, variable: str, stand: Letter) -> Range | None:
+        return self.range("bound", variable) if stand in ("L", "U") else None
+
+    def range(self, kind: str, name: str) -> Range:
+        """The range of the next line, which is due to be that of this cost or bound."""
+        words = self.lines.next()
+        if words[:3] != ["range", kind, name] or len(words) != 5:
+            self.lines.fault()
+        return Range(self.lines.end(words[3], "-inf"), self.lines.end(words[4], "inf"))

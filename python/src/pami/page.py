@@ -18,7 +18,7 @@ from .model import Format, Model
 from .picture import counted, headline, picture, readable, write
 from .replay import Bound, Trace, trace
 from .source import Source
-from .table import both
+from .table import both, ends
 from .verify import verify
 
 TEMPLATE = Path(__file__).with_name("page.html")
@@ -52,6 +52,16 @@ class Line:
     stand: str = ""
     missed: str = ""
     is_zero: bool = False
+
+
+@dataclass(frozen=True)
+class Moved:
+    """How far a cost or a bound may be moved: what it is now, and both ends as decimals and as fractions."""
+
+    name: str
+    now: tuple[str, str]
+    ends: tuple[str, str, str, str]
+    stand: str = ""
 
 
 @dataclass(frozen=True)
@@ -151,6 +161,8 @@ class _Page:
             "overflow": self.overflow(),
             "columns": self.columns(),
             "rows": self.rows(),
+            "costs": self.costs(),
+            "bounds": self.bounds(),
             "conflict": self.conflict(),
             "ray": self.ray(),
             "basis": result.basis,
@@ -233,6 +245,23 @@ class _Page:
                     is_zero=not value and not missed,
                 )
             )
+        return made
+
+    # ---- how far the answer holds
+
+    def costs(self) -> list[Moved]:
+        """The range of each cost, in the sense of the file, where ranges were asked for."""
+        costs = dict(zip(self.run.model.columns, self.run.model.costs, strict=True))
+        told = self.run.result.cost_ranges.items()
+        return [Moved(readable(name), self.both(costs[name]), ends(it, self.digits)) for name, it in told]
+
+    def bounds(self) -> list[Moved]:
+        """The range of each bound at which a column or a row stands."""
+        variables, made = self.run.result.variables, []
+        for name, it in self.run.result.bound_ranges.items():
+            variable = variables[name]
+            stand = BOUNDS[variable.stand]
+            made.append(Moved(readable(name), self.both(variable.value), ends(it, self.digits), stand))
         return made
 
     # ---- why there is no plan, or no best one

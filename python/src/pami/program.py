@@ -30,10 +30,17 @@ from .errors import (
 )
 from .model import Format
 from .source import ENCODING, ERRORS, HINT, Source, guess_format, is_text, read_model, read_text
+from .summary import Trial, read_trial
 from .verdict import Verdict
 
 REFUSED = re.compile(r"refused ([0-9]+) (\S+)(?: (\S+))?\n\Z")
 ANSWERS, VERDICTS = (0, 10, 11, 12, 13), (0, 20, 21, 22)
+# What is asked of the words, for whom they are bad words.
+OF_SOLVE = (
+    "a batch is from 1 to 8, a refactor number from 0 to 64, a limit from 0 to 1000000, names are UTF-8 texts, and "
+    "`ranging` needs a program that has it"
+)
+OF_TRIAL = "a seed is from 0 to 4294967295, rows and columns are from 1 to 64, and the program has to have `trial`"
 # What the script ./pami ends with where it can't build the program.
 NOT_BUILT = 70
 
@@ -76,30 +83,46 @@ def solve(
     batch: int | None = None,
     refactor: int | None = None,
     limit: int | None = None,
+    ranging: bool = False,
     program: Source | None = None,
     timeout: float | None = None,
 ) -> Result:
     """Solves a model: the name of a file, or a text, which is a str with a line end in it.
 
     `batch` is the most rows of a batch, 1 to 8, `refactor` the most pivots that a factor of the basis is kept for, 0 to
-    64, and `limit` how many pivots are allowed, 0 to 1000000; the program has 4, 16 and 100000 for None. A run that
-    ends at its limit or at a number that doesn't fit is a result too, and so is a model without a plan or without a
-    best one: see `Result.status`, or call `Result.optimal`. All else is an error.
+    64, and `limit` how many pivots are allowed, 0 to 1000000; the program has 4, 16 and 100000 for None. With `ranging`
+    an optimal answer also says how far each cost and each bound may be moved. A run that ends at its limit or at a
+    number that doesn't fit is a result too, and so is a model without a plan or without a best one: see
+    `Result.status`, or call `Result.optimal`. All else is an error.
     """
     given = {"--batch": batch, "--refactor": refactor, "--limit": limit}
     words = [word for option, value in given.items() if value is not None for word in (option, str(value))]
+    words += ["--ranging"] * ranging
     with _as_file(model, "model") as file:
         form = format or guess_format(model)
         status, text = _call(["solve", "--format", form, *words, "--", file.path], program, timeout)
         if status not in ANSWERS:
-            raise _error(status, text, words, [file])
+            raise _error(status, text, f"{words}: {OF_SOLVE}", [file])
         try:
             read = read_model(Path(file.path), form)
         except ModelFault as error:
             raise PamiError(
                 f"the program reads {file.shown}, and this package doesn't: {error}. Please report it."
             ) from error
-        return read_result(text, read)
+        return read_result(text, read, ranging=ranging)
+
+
+def trial(
+    seed: int, rows: int, columns: int, *, program: Source | None = None, timeout: float | None = None
+) -> Trial:
+    """Has the program draw a transport model by a seed and solve it. The model has `rows` sources and `columns` sinks,
+    each 1 to 64, and a column for each way between them. The seed is 0 to 4294967295.
+    """
+    words = [str(seed), str(rows), str(columns)]
+    status, text = _call(["trial", "--", *words], program, timeout)
+    if status not in ANSWERS:
+        raise _error(status, text, f"{words}: {OF_TRIAL}", [])
+    return read_trial(text)
 
 
 def check(
@@ -116,7 +139,7 @@ def check(
         form = format or guess_format(model)
         status, text = _call(["check", "--format", form, "--", file.path, other.path], program, timeout)
         if status not in VERDICTS:
-            raise _error(status, text, [], [file, other])
+            raise _error(status, text, "of `check`: names are UTF-8 texts", [file, other])
         return _verdict(text)
 
 
@@ -153,15 +176,12 @@ def _call(words: list[str], program: Source | None, timeout: float | None) -> tu
     return ran.returncode, ran.stdout.decode(ENCODING, ERRORS)
 
 
-def _error(status: int, text: str, words: list[str], files: list[_File]) -> PamiError:
-    """The error of a status that is no answer."""
+def _error(status: int, text: str, words: str, files: list[_File]) -> PamiError:
+    """The error of a status that is no answer. `words` are those of the call, with what is asked of them."""
     if status == 2 and text == "bad words\n":
-        return BadWords(
-            f"the program doesn't take the words {words}: a batch is from 1 to 8, a refactor number from 0 to 64, a "
-            "limit from 0 to 1000000, and names are UTF-8 texts"
-        )
+        return BadWords(f"the program doesn't take the words {words}")
     found = REFUSED.match(text)
-    if status == 3 and found is not None:
+    if status == 3 and found is not None and files:
         return _refusal(files[0], int(found[1]), found[2], found[3] or "")
     if status == 4 and text == "read fault\n":
         return _read_fault(files)

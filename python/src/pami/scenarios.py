@@ -44,6 +44,7 @@ def sweep(
     batch: int | None = None,
     refactor: int | None = None,
     limit: int | None = None,
+    ranging: bool = False,
     program: Source | None = None,
     timeout: float | None = None,
 ) -> list[Scenario]:
@@ -55,7 +56,14 @@ def sweep(
     there, and a text is sent along.
     """
     call = partial(
-        _scenario, format=format, batch=batch, refactor=refactor, limit=limit, program=program, timeout=timeout
+        _scenario,
+        format=format,
+        batch=batch,
+        refactor=refactor,
+        limit=limit,
+        ranging=ranging,
+        program=program,
+        timeout=timeout,
     )
     if executor is not None:
         return list(executor.map(call, models))

@@ -7,7 +7,12 @@ from fractions import Fraction
 
 from .answer import Result, Status
 from .decimals import decimal
+from .ranges import Range
 
+RANGES = (
+    "The same variables stay in the basis, and so the plan or its prices, as long as one of these numbers alone is "
+    "moved within its range; see docs/RANGING.md."
+)
 LETTERS = "B: in the basis, L and U: at the lower or upper bound, Z: without bounds."
 SENSES = {"min": "as minimised", "max": "in the sense of the file, a maximum"}
 
@@ -24,6 +29,8 @@ def table(result: Result, digits: int = 6) -> str:
             told = [(name, *both(value, digits), *both(cost, digits), stand) for name, value, cost, stand in lines]
             parts.append(_columns([(kind, "value", "", price, "", "stands"), *told]))
         parts.append(f"Prices are {SENSES[result.sense]}. {LETTERS}")
+        if result.cost_ranges or result.bound_ranges:
+            parts += [*_ranges(result, digits), RANGES]
     elif result.status is Status.INFEASIBLE and result.model is not None:
         parts.append(str(result.explain_infeasible()))
     elif result.direction or result.multipliers:
@@ -31,6 +38,25 @@ def table(result: Result, digits: int = 6) -> str:
         numbers = {**result.direction, **result.multipliers}
         parts.append(_columns([head, *((name, *both(it, digits)) for name, it in numbers.items() if it)]))
     return "\n\n".join(parts)
+
+
+def _ranges(result: Result, digits: int) -> list[str]:
+    """The ranges of the costs, and of the bounds at which columns and rows stand."""
+    variables = result.variables
+    costs: list[tuple[str, ...]] = [(name, *ends(it, digits)) for name, it in result.cost_ranges.items()]
+    bounds: list[tuple[str, ...]] = []
+    for name, it in result.bound_ranges.items():
+        bounds.append((name, *both(variables[name].value, digits), *ends(it, digits)))
+    heads = ("cost of column", "from", "", "to", ""), ("bound of", "now", "", "from", "", "to", "")
+    return [_columns([head, *lines]) for head, lines in zip(heads, (costs, bounds), strict=True) if lines]
+
+
+def ends(told: Range, digits: int) -> tuple[str, str, str, str]:
+    """Each end as a decimal and, where it isn't whole, as a fraction."""
+    shown: list[str] = []
+    for end, word in zip((told.low, told.high), told.ends(), strict=True):
+        shown += both(end, digits) if isinstance(end, Fraction) else (word, "")
+    return (shown[0], shown[1], shown[2], shown[3])
 
 
 def _head(result: Result, digits: int) -> str:
