@@ -149,7 +149,7 @@ def test_no_answer_no_ranges(ranger: str, examples: Path) -> None:
 
 
 def test_a_moved_cost(ranger: str) -> None:
-    """At the end of a cost's range the basis is still best, and a tenth past it no more. 30 times the costs are whole."""
+    """At the end of a cost's range the basis is still best, and a tenth past it no more. Times 30 costs are whole."""
     lunch = "Minimize\n {bread} bread + {milk} milk\nst\n 5 bread + 3 milk >= 30\n bread + 2 milk <= 12\nEnd\n"
     first = pami.solve(lunch.format(bread="25", milk="20"), ranging=True, program=ranger)
     high = first.cost_ranges["bread"].high
