@@ -342,7 +342,7 @@ def judged(command, seed, number):
         with open(os.path.join(folder, "m.mps"), "w", encoding="ascii", newline="") as file:
             file.write(text)
         status, told, _ = answer(command, ["solve", "m.mps", "--limit", str(limit), "--ranging"], folder)
-        if status in (10, 11, 12, 13):
+        if status in (3, 10, 11, 12, 13):
             found.counts["models without an optimal answer"] += 1
             return found
         try:
