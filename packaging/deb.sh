@@ -55,7 +55,7 @@ put_files() {
         scdoc <"$top/man/$page.scd" | put_packed "$1/share/man/man${page##*.}/$page.gz"
     done
     install -m 644 "$top/packaging/pami.bash-completion" "$1/share/bash-completion/completions/pami"
-    for page in FORMATS ANSWERS CHECKING FROM_YOUR_TOOL MANY_MODELS; do
+    for page in FORMATS ANSWERS RANGING CHECKING FROM_YOUR_TOOL MANY_MODELS; do
         install -m 644 "$top/docs/$page.md" "$doc/docs/"
     done
     install -m 644 "$top"/examples/*.* "$doc/examples/"

@@ -90,20 +90,24 @@ def _completed(*words: str) -> list[str]:
 @pytest.mark.parametrize(
     ("words", "due"),
     [
-        (["pami", ""], ["solve", "check"]),
+        (["pami", ""], ["solve", "check", "trial"]),
         (["./pami", "s"], ["solve"]),
         (["pami", "solve", "di"], ["diet.mps", "dispatch.mps"]),
         (["pami", "check", "diet.mps", "dear"], ["dear_diet.txt"]),
-        (["pami", "solve", "-"], ["--format", "--batch", "--refactor", "--limit"]),
+        (["pami", "solve", "-"], ["--format", "--batch", "--refactor", "--limit", "--ranging"]),
         (["pami", "check", "--"], ["--format"]),
-        (["pami", "solve", "--limit", "5", "-"], ["--format", "--batch", "--refactor"]),
-        (["pami", "solve", "--format", "=", "lp", "--"], ["--batch", "--refactor", "--limit"]),
+        (["pami", "solve", "--limit", "5", "-"], ["--format", "--batch", "--refactor", "--ranging"]),
+        (["pami", "solve", "--ranging", "--"], ["--format", "--batch", "--refactor", "--limit"]),
+        (["pami", "solve", "--ranging", "di"], ["diet.mps", "dispatch.mps"]),
+        (["pami", "solve", "--format", "=", "lp", "--"], ["--batch", "--refactor", "--limit", "--ranging"]),
         (["pami", "solve", "--format", ""], ["mps", "lp"]),
         (["pami", "solve", "--format", "="], ["mps", "lp"]),
         (["pami", "solve", "--format", "=", "m"], ["mps"]),
         (["pami", "solve", "--batch", "1"], []),
         (["pami", "solve", "--", "fa"], ["farm.lp"]),
         (["pami", "solve", "--", "--l"], []),
+        (["pami", "trial", "--"], []),
+        (["pami", "trial", "7", ""], []),
     ],
 )
 def test_completion(words: list[str], due: list[str]) -> None:
@@ -128,7 +132,8 @@ def _has_all(usr: Path, program: str, examples: Path) -> None:
     for page in PAGES:
         assert (usr / "share" / "man" / f"man{page[-1]}" / f"{page}.gz").exists()
     assert (usr / "share" / "bash-completion" / "completions" / "pami").exists()
-    assert (usr / "share" / "doc" / "pami" / "docs" / "FORMATS.md").exists()
+    for name in ("FORMATS", "RANGING"):
+        assert (usr / "share" / "doc" / "pami" / "docs" / f"{name}.md").exists()
 
 
 def test_deb(program: str, examples: Path, tmp_path: Path) -> None:

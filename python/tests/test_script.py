@@ -11,8 +11,9 @@ import pytest
 from conftest import TOP
 
 USAGE = """\
-usage: pami solve FILE [--format mps|lp] [--batch S] [--refactor R] [--limit K]
+usage: pami solve FILE [--format mps|lp] [--batch S] [--refactor R] [--limit K] [--ranging]
        pami check FILE CERT [--format mps|lp]
+       pami trial SEED ROWS COLUMNS
 """
 # Says its words, each in a line, and ends with a status that ./pami doesn't have of its own.
 STAND_IN = "#!/bin/sh\nprintf 'word %s\\n' \"$@\"\nexit 33\n"
