@@ -41,6 +41,10 @@ r r 4 1/2
 end
 basis B L
 """
+# The price of r is half the cost of x, so that cost may be anything from 0 on; and x is half of r, so r may be.
+GOOD_RANGES = """range cost x 0 inf
+range bound r:r 0 inf
+"""
 # No pivot is allowed: all variables stand as at the start, the column at its lower bound.
 LIMIT_TEXT = """pami 1
 model 1 1 1
@@ -156,6 +160,12 @@ r r 3 2
 end
 basis UB L
 """
+# y is what x lacks of 3, and costs 2: x may cost up to that, and y not less than x. y is 0 with 3 of x, or with r at 1.
+FLIP_RANGES = """range cost x -inf 2
+range cost y 1 inf
+range bound x:x -inf 3
+range bound r:r 1 inf
+"""
 # Both may be 1 at most, so 3 can't be had; the flips of a walk that nobody enters in aren't written.
 UNREACHED = FLIP.replace("ENDATA", " UP y 1\nENDATA")
 UNREACHED_TEXT = """pami 1
@@ -196,6 +206,17 @@ x z 0 0
 r r 7 0
 end
 basis UZ B
+"""
+# x goes to its upper bound while it brings anything; r, which is x, is between 4 and 10. z may cost nothing else than 0.
+MAXIMUM_RANGES = """range cost x 0 inf
+range cost z 0 0
+range bound x:x 4 10
+"""
+# One source and one sink. The states behind 1 are 39022 and 61087, whose sixteenths are 2438 and 3817: the demand is 39, and
+# the cost 18.
+TRIAL_TEXT = """trial 1 1 1
+answer optimal objective 702
+pivots 1 majors 1 flips 0 rollbacks 0
 """
 # The starting value of the row is 10^-38 + 10^19, which has 57 digits in its numerator.
 START = """ROWS
@@ -297,6 +318,25 @@ ROWS = [
     ("a flip", ["solve", "flip.mps"], 0, FLIP_TEXT),
     ("a maximum", ["solve", "maximum.mps"], 0, MAXIMUM_TEXT),
     ("an objective that doesn't fit", ["solve", "wide_sum.mps"], 0, WIDE_SUM_TEXT),
+    ("ranges", ["solve", "good.mps", "--ranging"], 0, GOOD_TEXT + GOOD_RANGES),
+    ("ranges behind a flip", ["solve", "--ranging", "flip.mps"], 0, FLIP_TEXT + FLIP_RANGES),
+    ("ranges of a maximum", ["solve", "maximum.mps", "--ranging"], 0, MAXIMUM_TEXT + MAXIMUM_RANGES),
+    ("no ranges of an infeasible answer", ["solve", "infeasible.mps", "--ranging"], 10, INFEASIBLE_TEXT),
+    ("no ranges at the limit", ["solve", "--limit=0", "--ranging", "good.mps"], 12, LIMIT_TEXT),
+    ("ranges with a value", ["solve", "good.mps", "--ranging=1"], 2, BAD_WORDS),
+    ("ranges twice", ["solve", "--ranging", "good.mps", "--ranging"], 2, BAD_WORDS),
+    ("a drawn model", ["trial", "1", "1", "1"], 0, TRIAL_TEXT),
+    ("a drawn model by words with zeros, behind --", ["trial", "--", "0000000001", "01", "1"], 0, TRIAL_TEXT),
+    ("a drawn model of another seed with the same remainder", ["trial", "65537", "1", "1"], 0,
+     TRIAL_TEXT.replace("1", "65537", 1)),
+    ("a seed past the greatest", ["trial", "4294967296", "1", "1"], 2, BAD_WORDS),
+    ("a seed of eleven digits", ["trial", "00000000001", "1", "1"], 2, BAD_WORDS),
+    ("no sources", ["trial", "1", "0", "1"], 2, BAD_WORDS),
+    ("too many sinks", ["trial", "1", "1", "65"], 2, BAD_WORDS),
+    ("a drawn model without its sinks", ["trial", "1", "1"], 2, BAD_WORDS),
+    ("a drawn model with a limit", ["trial", "1", "1", "1", "--limit", "5"], 2, BAD_WORDS),
+    ("a drawn model with ranges", ["trial", "1", "1", "1", "--ranging"], 2, BAD_WORDS),
+    ("a check with ranges", ["check", "good.mps", "good.txt", "--ranging"], 2, BAD_WORDS),
     ("a file of 16,777,217 bytes", ["solve", "too_long.mps"], 3, "refused 0 too-long\n"),
     ("a box whose width doesn't fit", ["solve", "wide_box.mps"], 3, "refused 0 width x:x\n"),
     ("a file that isn't there", ["solve", "missing.mps"], 4, READ_FAULT),
@@ -389,7 +429,7 @@ def own_texts(program, folder):
         if words[:1] == ["solve"] and status in (0, 10, 11):
             with open(f"{folder}/own.txt", "w", encoding="utf-8") as it:
                 it.write(text)
-            ran = run(program, folder, ["check", *words[1:], "own.txt"])
+            ran = run(program, folder, ["check", *(it for it in words[1:] if it != "--ranging"), "own.txt"])
             wrong.append(differs(f"the check of {title}", ran, 0, "valid\n"))
     return wrong
 
