@@ -2,7 +2,7 @@
 """Checks the ranges that a program tells: moves costs and bounds to their ends and past them, and asks what becomes of the basis.
 
 check_ranging.py PROGRAM --seed S --ends N [--jobs J]. PROGRAM is a command, behind which the words `solve FILE --limit K --ranging`
-are put. Models of draw_models.py are taken in their order, until N ends were solved again. Each end of each range is judged in
+are put. Models of draw_models.py are taken in their order, every other one turned into a maximum, until N ends were solved again. Each end of each range is judged in
 two ways, and neither asks how it was found:
 
 1. In fractions, over the model as the Python package reads it, with the basis of the last line: at the end the basis with its
@@ -197,6 +197,14 @@ def mps(model):
     return "\n".join([*lines, "RHS", *sides, "RANGES", *ranges, "BOUNDS", *bounds, "ENDATA", ""])
 
 
+def turned(text):
+    """The same model as a maximum, or as a minimum where it is one, without its constant."""
+    model = pami.read_model(text, "mps")
+    model.sense = {"min": "max", "max": "min"}[model.sense]
+    model.costs = [-cost for cost in model.costs]
+    return mps(model)
+
+
 def is_writable(model):
     """Whether no bound would be read as infinite."""
     sides = model.low + model.high + model.row_low + model.row_high
@@ -337,6 +345,7 @@ class Found:
 def judged(command, seed, number):
     """What is found of one model."""
     text, limit = draw_models.drawn(seed, number)
+    text = turned(text) if number % 2 else text
     found = Found(text)
     with tempfile.TemporaryDirectory() as folder:
         with open(os.path.join(folder, "m.mps"), "w", encoding="ascii", newline="") as file:
