@@ -1,10 +1,11 @@
 #!/usr/bin/env python3
 """Runs two programs on files drawn by draw_models.py or draw_faults.py and compares what they write and how they end.
 
-compare_answers.py PROGRAM REFERENCE --seed S --count N [--what models|faults|texts] [--jobs J]. PROGRAM and REFERENCE are
-commands, behind which the words `solve FILE --limit K` are put, and with most files a batch, a refactor number or both; both run in
-the folder of the files. `models` are drawn models, `faults` damaged files, and `texts` the texts of fault_texts.py, which need neither seed nor count. Standard output
-and exit status must be the same, byte for byte, and some text must be there. Each difference is printed, the first few in
+compare_answers.py PROGRAM REFERENCE --seed S --count N [--what models|faults|texts|trials] [--jobs J]. PROGRAM and REFERENCE are
+commands, behind which the words `solve FILE --limit K` are put, with most files a batch, a refactor number or both, and with half of
+them `--ranging`; both run in the folder of the files. `models` are drawn models, `faults` damaged files, and `texts` the texts of
+fault_texts.py, which need neither seed nor count; `trials` are drawn words of `trial`, some of which are bad. Standard output and
+exit status must be the same, byte for byte, and some text must be there. Each difference is printed, the first few in
 full; then how often REFERENCE gave each kind of answer, and how often something else that is worth a count. Ends with 1
 where something differs.
 """
@@ -12,6 +13,7 @@ import argparse
 import collections
 import concurrent.futures
 import os
+import random
 import re
 import shlex
 import shutil
@@ -32,11 +34,11 @@ FEW, SHOWN = 50, 4000
 # The options beside the limit, for one file after the other.
 OPTIONS = [
     [],
-    ["--batch", "1", "--refactor", "0"],
+    ["--batch", "1", "--refactor", "0", "--ranging"],
     ["--batch=8"],
-    ["--refactor", "0"],
+    ["--refactor", "0", "--ranging"],
     ["--batch=2", "--refactor=1"],
-    ["--batch", "3", "--refactor", "64"],
+    ["--batch", "3", "--refactor", "64", "--ranging"],
 ]
 # What is counted beside the kinds of answers, and how a text shows it.
 EVENTS = [
@@ -60,6 +62,12 @@ EVENTS = [
     ("with a pivot that costs nothing", r"^pivot .* 0$"),
     ("with an overflow in a later slice", r"^answer overflow (price|shift)-\d+-[1-9]"),
     ("with an objective that doesn't fit", r"^objective wide$"),
+    ("with a cost that has two finite ends", r"^range cost \S+ -?\d\S* -?\d"),
+    ("with a bound that has two finite ends", r"^range bound \S+ -?\d\S* -?\d"),
+    ("with a number that has no end at all", r"^range .* -inf inf$"),
+    ("with a wide end of a cost", r"^range cost .* wide"),
+    ("with a wide end of a bound", r"^range bound .* wide"),
+    ("with one wide end beside another", r"^range \S+ \S+ (wide -?\d|wide inf|-?\d\S* wide|-inf wide)"),
 ]
 
 
@@ -110,9 +118,11 @@ def show(number, words, folder, given, due):
     if number > IN_FULL:
         print(line)
         return
-    with open(os.path.join(folder, words[1]), "rb") as file:
-        model = file.read(SHOWN).decode("latin-1")
-    print(f"{line}\n--- the file\n{model.encode('unicode_escape').decode().replace(chr(92) + 'n', chr(10))}")
+    print(line)
+    if words[0] == "solve":
+        with open(os.path.join(folder, words[1]), "rb") as file:
+            model = file.read(SHOWN).decode("latin-1")
+        print(f"--- the file\n{model.encode('unicode_escape').decode().replace(chr(92) + 'n', chr(10))}")
     for title, (status, text, error) in (("PROGRAM", given), ("REFERENCE", due)):
         end = "" if not text or text.endswith("\n") else " (no line feed)\n"
         print(f"--- {title}, status {status}\n{text}", end=end)
@@ -137,15 +147,32 @@ def files_of(what, seed, count, folder):
     return [(name, FEW) for name in (write_texts(folder) if what == "texts" else draw_faults.write_all(seed, count, folder))]
 
 
+def trial_words(draw):
+    """Words of `trial`: small numbers mostly, and now and then one at or past an end of its range, or one too many."""
+    seed = draw.choice([draw.randint(0, 70000), draw.randint(0, 2**32 - 1), 0, 2**32 - 1])
+    sides = [draw.choice([1, 2, 3, draw.randint(1, 12), draw.randint(1, 30)]) for _ in range(2)]
+    words = [f"{seed:0{draw.choice([1, 1, 1, 10])}}", *map(str, sides)]
+    if draw.random() < 0.1:
+        words[draw.randint(0, 2)] = draw.choice(["65", "0", "-1", "4294967296", "00000000001", "1.0", "x", ""])
+    elif draw.random() < 0.1:
+        words.insert(draw.randint(0, 3), draw.choice(["--", "1", "--limit=5", "--ranging"]))
+    return ["trial", *words]
+
+
+def calls_of(what, seed, count, folder):
+    """The words of each call. Files are written to the folder."""
+    if what == "trials":
+        return [trial_words(random.Random(f"trial {seed} {number}")) for number in range(count)]
+    files = enumerate(files_of(what, seed, count, folder))
+    return [["solve", name, "--limit", str(limit), *OPTIONS[at % len(OPTIONS)]] for at, (name, limit) in files]
+
+
 def compare(program, reference, what, seed, count, jobs):
     """How many differences there are; the counts are printed."""
     kinds, events = collections.Counter(), collections.Counter()
     differences = 0
     with tempfile.TemporaryDirectory() as folder, concurrent.futures.ThreadPoolExecutor(jobs) as pool:
-        files = files_of(what, seed, count, folder)
-        calls = [
-            ["solve", name, "--limit", str(limit), *OPTIONS[at % len(OPTIONS)]] for at, (name, limit) in enumerate(files)
-        ]
+        calls = calls_of(what, seed, count, folder)
         pairs = pool.map(lambda words: (answer(program, words, folder), answer(reference, words, folder)), calls)
         for words, (given, due) in zip(calls, pairs):
             kinds[kind_of(*due[:2])] += 1
@@ -158,7 +185,7 @@ def compare(program, reference, what, seed, count, jobs):
     for title, _ in EVENTS:
         if events[title] or what == "models":
             print(f"{events[title]:6} {title}")
-    if differences and what != "texts":
+    if differences and what in ("models", "faults"):
         print(f"`draw_{what}.py --seed {seed} --count {count} FOLDER` draws these files again")
     print(f"{len(calls)} {what}, {differences} differences")
     return differences
@@ -168,7 +195,7 @@ def main():
     parser = argparse.ArgumentParser(description=__doc__.split("\n")[0])
     parser.add_argument("program")
     parser.add_argument("reference")
-    parser.add_argument("--what", choices=["models", "faults", "texts"], default="models")
+    parser.add_argument("--what", choices=["models", "faults", "texts", "trials"], default="models")
     parser.add_argument("--seed", type=int, default=1)
     parser.add_argument("--count", type=int, default=100)
     parser.add_argument("--jobs", type=int, default=1)
