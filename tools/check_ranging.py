@@ -16,7 +16,7 @@ two ways, and neither asks how it was found:
 A moved number needn't be a decimal. So all costs are multiplied by one number, or all bounds: that changes neither which bases are
 optimal nor who stands where. Where a bound would pass the variable's other bound, that one is left out, as a range doesn't look at it;
 both bounds of a fixed variable are moved together. Each wrong end is printed, the first few with their model; then what was judged.
-Ends with 1 where something is wrong, or where nothing was judged.
+Ends with 1 where something is wrong; of much that is, with what was found so far.
 """
 import argparse
 import collections
@@ -40,8 +40,8 @@ from compare_answers import IN_FULL, answer, command_of  # noqa: E402
 sys.path.insert(0, os.path.join(os.path.dirname(os.path.dirname(os.path.realpath(__file__))), "python", "src"))
 import pami  # noqa: E402
 
-# So many ends of a model are solved again, and so many times what it is now is far.
-AGAIN, FAR = 4, 10**6
+# So many ends of a model are solved again, so many times what it is now is far, and so many wrong ones are enough.
+AGAIN, FAR, ENOUGH = 4, 10**6, 50
 # Further than any end, and nearer to an end than any other number that matters.
 ENDLESS, LEAST = Fraction(10) ** 2000, Fraction(1, 10**400)
 # A number on the way has at most twice as many binary digits as this, where determinants have at most this many.
@@ -379,7 +379,7 @@ def main():
     counts, wrong, again = collections.Counter(), 0, 0
     with concurrent.futures.ProcessPoolExecutor(given.jobs) as pool:
         for first in itertools.count(0, 4 * given.jobs):
-            if again >= given.ends or first > 100 * given.ends:
+            if again >= given.ends or wrong >= ENOUGH:
                 break
             numbers = range(first, first + 4 * given.jobs)
             for number, found in zip(numbers, pool.map(judge, numbers)):
@@ -394,7 +394,7 @@ def main():
         print(f"{times:6} {kind}")
     ends = sum(times for kind, times in counts.items() if " ends of " in kind)
     print(f"{ends} ends judged in fractions, {again} solved again, of {counts['models judged']} models; {wrong} wrong")
-    return int(wrong > 0 or not again)
+    return int(wrong > 0)
 
 
 if __name__ == "__main__":

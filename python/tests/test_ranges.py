@@ -3,11 +3,14 @@
 from __future__ import annotations
 
 import json
+import subprocess
+import sys
 from fractions import Fraction
 from pathlib import Path
 
 import pami
 import pytest
+from conftest import TOP
 from test_pages import Words
 from test_replay import DIET
 
@@ -163,6 +166,41 @@ def test_a_moved_cost(ranger: str) -> None:
 def test_sweep(ranger: str, examples: Path) -> None:
     (scenario,) = pami.sweep([examples / "diet.mps"], ranging=True, program=ranger)
     assert scenario.result.bound_ranges["r:vitamin_c"] == pami.Range(Fraction(2), Fraction(16))
+
+
+def _checked(program: str | Path) -> subprocess.CompletedProcess[str]:
+    """What tools/check_ranging.py says of a program, on a few ends."""
+    words = [sys.executable, TOP / "tools" / "check_ranging.py", program, "--seed", "31", "--ends", "9"]
+    return subprocess.run(words, capture_output=True, text=True, timeout=300, check=False)
+
+
+def test_drawn_ends(ranger: str) -> None:
+    ran = _checked(ranger)
+    assert ran.returncode == 0, ran.stdout + ran.stderr
+    assert ran.stdout.endswith("; 0 wrong\n")
+
+
+@pytest.mark.parametrize(
+    ("change", "why"),
+    [
+        (r"s/^\(range .*\) -\{0,1\}[0-9/]* inf$/\1 -inf inf/", "there is an end, and none is told"),
+        (r"s/ wide / -inf /; s/^\(range .*\) wide$/\1 inf/", "there is an end, and none is told"),
+        (r"s/^\(range .*\) .* .*$/\1 wide wide/", "each number of so small a model fits"),
+        (r"s/^\(range .*\) \([1-9]\)\([0-9]*\)$/\1 1\2\3/", "the basis doesn't stay there"),
+        (r"s/^\(range .*\) \(.*\) \(.*\)$/\1 \3 \2/", "is none of an answer"),
+    ],
+)
+def test_wrong_ends_are_found(ranger: str, tmp_path: Path, change: str, why: str) -> None:
+    """Stand-ins that change the ends on their way are found: an end that is left out, one that isn't known told as none,
+    all of them told as not known, a high end with a digit too many, and ends that are exchanged.
+    """
+    wrong = tmp_path / "wrong"
+    told = f"text=$('{ranger}' \"$@\")\nstatus=$?\nprintf '%s\\n' \"$text\" | sed '{change}'\nexit $status\n"
+    wrong.write_text(f"#!/bin/sh\n{told}")
+    wrong.chmod(0o755)
+    ran = _checked(wrong)
+    assert ran.returncode == 1, ran.stdout + ran.stderr
+    assert why in ran.stdout
 
 
 def test_trial(drawer: str) -> None:
