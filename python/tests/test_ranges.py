@@ -170,7 +170,7 @@ def test_sweep(ranger: str, examples: Path) -> None:
 
 def _checked(program: str | Path) -> subprocess.CompletedProcess[str]:
     """What tools/check_ranging.py says of a program, on a few ends."""
-    words = [sys.executable, TOP / "tools" / "check_ranging.py", program, "--seed", "31", "--ends", "9"]
+    words = [sys.executable, str(TOP / "tools" / "check_ranging.py"), str(program), "--seed", "31", "--ends", "9"]
     return subprocess.run(words, capture_output=True, text=True, timeout=300, check=False)
 
 
@@ -191,7 +191,7 @@ def test_drawn_ends(ranger: str) -> None:
     ],
 )
 def test_wrong_ends_are_found(ranger: str, tmp_path: Path, change: str, why: str) -> None:
-    """Stand-ins that change the ends on their way are found: an end that is left out, one that isn't known told as none,
+    """Stand-ins that change the ends on their way are found: an end that is left out, one not known told as none,
     all of them told as not known, a high end with a digit too many, and ends that are exchanged.
     """
     wrong = tmp_path / "wrong"
