@@ -3,6 +3,8 @@
 from __future__ import annotations
 
 import json
+import re
+import shutil
 import subprocess
 import sys
 from fractions import Fraction
@@ -166,6 +168,52 @@ def test_a_moved_cost(ranger: str) -> None:
 def test_sweep(ranger: str, examples: Path) -> None:
     (scenario,) = pami.sweep([examples / "diet.mps"], ranging=True, program=ranger)
     assert scenario.result.bound_ranges["r:vitamin_c"] == pami.Range(Fraction(2), Fraction(16))
+
+
+def _told_by_glpk(model: Path, folder: Path) -> dict[str, tuple[list[str], list[str]]]:
+    """The words of each column and row in GLPK's report of sensitivity, of its first and of its second line there. A long
+    name has a line of its own in front of the rest of the first.
+    """
+    report = folder / "report.txt"
+    form = "--lp" if model.suffix == ".lp" else "--freemps"
+    call = ["glpsol", form, str(model), "--nopresol", "--ranges", str(report)]
+    subprocess.run(call, stdout=subprocess.DEVNULL, timeout=60, check=True)
+    told: dict[str, tuple[list[str], list[str]]] = {}
+    first: list[str] = []
+    for line in report.read_text(encoding="utf-8").splitlines():
+        words = line.split()
+        if re.match(r" +[0-9]+ \S", line):
+            first = words
+        elif first and len(first) == 2:
+            first += words
+        elif first:
+            told[first[1]], first = (first, words), []
+    return told
+
+
+def _as_glpk(end: pami.End) -> str:
+    """An end with five digits behind the point, as GLPK writes it: 0 as a point, and none in front of one."""
+    if not isinstance(end, Fraction):
+        return "Inf"
+    return re.sub(r"\b0\.(0{5}\Z)?", ".", f"{float(end):.5f}")
+
+
+@pytest.mark.parametrize("name", ["diet.mps", "dispatch.mps", "blend.mps", "ferry.lp"])
+def test_glpk_has_the_same_ranges(ranger: str, examples: Path, tmp_path: Path, name: str) -> None:
+    """In the first line of GLPK's report stand the low ends of the activity and of the cost at 6 and 7, in the second the
+    high ones at 2 and 3.
+    """
+    if shutil.which("glpsol") is None:
+        pytest.skip("glpsol isn't installed (Debian package glpk-utils)")
+    result = pami.solve(examples / name, ranging=True, program=ranger)
+    told = _told_by_glpk(examples / name, tmp_path)
+    costs = {variable: (7, 3, it) for variable, it in result.cost_ranges.items()}
+    bounds = {variable[2:]: (6, 2, it) for variable, it in result.bound_ranges.items()}
+    for ranges in (costs, bounds):
+        for variable, (low, high, it) in ranges.items():
+            first, second = told[variable]
+            found = [re.sub("[+-]Inf", "Inf", end) for end in (first[low], second[high])]
+            assert found == [_as_glpk(it.low), _as_glpk(it.high)], variable
 
 
 def _checked(program: str | Path) -> subprocess.CompletedProcess[str]:
