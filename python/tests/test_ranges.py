@@ -171,8 +171,8 @@ def test_sweep(ranger: str, examples: Path) -> None:
 
 
 def _told_by_glpk(model: Path, folder: Path) -> dict[str, tuple[list[str], list[str]]]:
-    """The words of each column and row in GLPK's report of sensitivity, of its first and of its second line there. A long
-    name has a line of its own in front of the rest of the first.
+    """The words of each column and row in GLPK's report, of its first and of its second line there. A long name has a
+    line of its own in front of the rest of the first.
     """
     report = folder / "report.txt"
     form = "--lp" if model.suffix == ".lp" else "--freemps"
@@ -200,8 +200,8 @@ def _as_glpk(end: pami.End) -> str:
 
 @pytest.mark.parametrize("name", ["diet.mps", "dispatch.mps", "blend.mps", "ferry.lp"])
 def test_glpk_has_the_same_ranges(ranger: str, examples: Path, tmp_path: Path, name: str) -> None:
-    """In the first line of GLPK's report stand the low ends of the activity and of the cost at 6 and 7, in the second the
-    high ones at 2 and 3.
+    """In the first line of a report stand the low ends of the activity and of the cost at 6 and 7, in the second the high
+    ones at 2 and 3.
     """
     if shutil.which("glpsol") is None:
         pytest.skip("glpsol isn't installed (Debian package glpk-utils)")
