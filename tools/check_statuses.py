@@ -1,7 +1,8 @@
 #!/usr/bin/env python3
 """Runs the built program for each status that it may end with, for each kind of refused file and for each kind of text that
 is no certificate, and compares status, standard output and standard error with what docs/FORMATS.md says. Every text was
-worked out from that document by hand. Each text of `solve` that has a certificate is checked too.
+worked out from that document by hand, but for the counts of the large trial, which come from another program. Each text of
+`solve` that has a certificate is checked too.
 
 check_statuses.py [PROGRAM]. Ends with 1 where something differs. Where there is no program, it says so and ends with 0.
 """
@@ -218,6 +219,10 @@ TRIAL_TEXT = """trial 1 1 1
 answer optimal objective 702
 pivots 1 majors 1 flips 0 rollbacks 0
 """
+LARGE_TRIAL_TEXT = """trial 7 20 30
+answer optimal objective 6247
+pivots 69 majors 22 flips 15 rollbacks 0
+"""
 # The starting value of the row is 10^-38 + 10^19, which has 57 digits in its numerator.
 START = """ROWS
  N c
@@ -329,6 +334,8 @@ ROWS = [
     ("a drawn model by words with zeros, behind --", ["trial", "--", "0000000001", "01", "1"], 0, TRIAL_TEXT),
     ("a drawn model of another seed with the same remainder", ["trial", "65537", "1", "1"], 0,
      TRIAL_TEXT.replace("1", "65537", 1)),
+    ("a large drawn model", ["trial", "7", "20", "30"], 0, LARGE_TRIAL_TEXT),
+    ("the large drawn model again", ["trial", "7", "20", "30"], 0, LARGE_TRIAL_TEXT),
     ("a seed past the greatest", ["trial", "4294967296", "1", "1"], 2, BAD_WORDS),
     ("a seed of eleven digits", ["trial", "00000000001", "1", "1"], 2, BAD_WORDS),
     ("no sources", ["trial", "1", "0", "1"], 2, BAD_WORDS),
