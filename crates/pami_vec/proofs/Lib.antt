@@ -8,3 +8,5 @@ pub mod Passes
 pub mod Results
 pub mod Changed
 pub mod ProductForm
+pub mod Gathered
+pub mod Turned
