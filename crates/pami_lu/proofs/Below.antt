@@ -16,7 +16,7 @@ use Rattle.pami_script.proofs.Scripts.{then_ok}
 use Rattle.pami_script.proofs.Members.{length_members, member_is}
 use Rattle.pami_script.proofs.Skipped.{at_here, at_other, sub_zero_right, length_dense, get_dense}
 use Rattle.pami_vec.specs.Scripts.{take_times_script}
-use Rattle.pami_lu.proofs.Listed.{dense_is}
+use Rattle.pami_vec.proofs.Turned.{dense_is}
 use Rattle.pami_factoring.specs.Factor.{row_at}
 use Rattle.pami_lu.specs.Members.{Ascends}
 use Rattle.pami_lu.specs.Plain.{plain_row, plain_rows}

@@ -1,5 +1,5 @@
 -- Vectors from their entries: the whole one, and one with 0 at a place.
-use Rattle.std.proofs.Common.{◌≡◌, ℕ, zero, suc, ◌+◌, ◌<◌, ◌≤◌, List, [], ◌∷◌, ◌++◌, length, set, drop, refl, sym, ap, ◌∙◌, subst, arith, ⊎_elim, cond, nat_eq, append-nil}
+use Rattle.std.proofs.Common.{◌≡◌, ℕ, suc, ◌<◌, ◌≤◌, List, [], ◌∷◌, ◌++◌, length, set, drop, refl, sym, ap, ◌∙◌, subst, arith, ⊎_elim, cond, nat_eq, append-nil}
 use Rattle.std.proofs.lemmas.Bool.{cases_eq}
 use Rattle.std.proofs.lemmas.List.{get_or-set_same, get_or-set_other, drop_all, length-set}
 use lib.IntN.{pos}
@@ -7,26 +7,13 @@ use Rattle.pami_algebra.specs.Fraction.{Fraction}
 use Rattle.pami_algebra.specs.Operations.{of_int}
 use Rattle.pami_frac.specs.declared.list.Entry.{Entry}
 use Rattle.pami_linear.specs.Lists.{get}
-use Rattle.pami_script.specs.Dense.{at, dense, dense_from, Rising}
+use Rattle.pami_script.specs.Dense.{at, dense, Rising}
 use Rattle.pami_script.proofs.Skipped.{at_other}
 use Rattle.pami_vec.specs.Entries.{AreEntriesOf}
 use Rattle.pami_vec.proofs.Built.{rising_from}
 use Rattle.pami_vec.proofs.Scripted.{get_at}
+use Rattle.pami_vec.proofs.Turned.{dense_is}
 use Rattle.pami_lu.proofs.Those.{eqb_yes, eqb_no}
-
--- the list of the values at all places
-dense_from_is : (n k : ℕ) (xs : List Fraction) (es : List Entry) → length xs ≡ n → ((q : ℕ) → q < n → at es (k + q) ≡ get xs q) → dense_from n k es ≡ xs
-dense_from_is zero k [] es e h = refl
-dense_from_is zero k (x ∷ xs) es e h = absurd (omega arith)
-dense_from_is (suc n) k [] es e h = absurd (omega arith)
-dense_from_is (suc n) k (x ∷ xs) es e h =
-    let z : k + 0 ≡ k = omega arith in
-    ap (λ y. y ∷ dense_from n (suc k) es) (ap (at es) (sym z) ∙ h 0 (omega arith))
-    ∙ ap (λ ys. x ∷ ys) (dense_from_is n (suc k) xs es (omega arith) (λ q l. let s : suc k + q ≡ k + suc q = omega arith in ap (at es) s ∙ h (suc q) (omega arith)))
-
-pub dense_is : (n : ℕ) (xs : List Fraction) (es : List Entry) → length xs ≡ n → ((q : ℕ) → q < n → at es q ≡ get xs q) → dense n es ≡ xs
-unfolding dense
-dense_is n xs es e h = dense_from_is n 0 xs es e (λ q l. let z : 0 + q ≡ q = omega arith in ap (at es) z ∙ h q l)
 
 -- ---- the entries but for one place
 abbrev pub entries_but : ℕ → List Entry → List Entry

@@ -1,4 +1,4 @@
 pub mod Walked
 pub mod Priced
 pub mod Rows
-pub mod Products
+pub mod Summed

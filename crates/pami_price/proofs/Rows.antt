@@ -11,6 +11,7 @@ use Rattle.pami_script.specs.Dense.{at, Rising}
 use Rattle.pami_script.proofs.Skipped.{at_here, at_other, at_below}
 use Rattle.pami_vec.specs.Entries.{NoZeros}
 use Rattle.pami_vec.proofs.Built.{rising_from, zero_is}
+use Rattle.pami_vec.specs.Turned.{AreEven}
 use Rattle.pami_price.specs.Slices.{column_at, with_first}
 use Rattle.pami_price.specs.Agreement.{nonzero_entries}
 
@@ -89,3 +90,14 @@ four_columns a b c d rho h k l m (suc zero) n = k
 four_columns a b c d rho h k l m (suc (suc zero)) n = l
 four_columns a b c d rho h k l m (suc (suc (suc zero))) n = m
 four_columns a b c d rho h k l m (suc (suc (suc (suc v)))) n = absurd (omega arith)
+
+pub four_even : (a b c d rho : List Fraction) → length a ≡ length rho → length b ≡ length rho → length c ≡ length rho → length d ≡ length rho → AreEven (a ∷ b ∷ c ∷ d ∷ [])
+four_even a b c d rho h k l m = (length rho, four_columns a b c d rho h k l m)
+
+pub two_columns : (a b rho : List Fraction) → length a ≡ length rho → length b ≡ length rho → (v : ℕ) → v < 2 → length (column_at (a ∷ b ∷ []) v) ≡ length rho
+two_columns a b rho h k zero n = h
+two_columns a b rho h k (suc zero) n = k
+two_columns a b rho h k (suc (suc v)) n = absurd (omega arith)
+
+pub two_even : (a b rho : List Fraction) → length a ≡ length rho → length b ≡ length rho → AreEven (a ∷ b ∷ [])
+two_even a b rho h k = (length rho, two_columns a b rho h k)

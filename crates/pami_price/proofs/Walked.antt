@@ -38,10 +38,6 @@ left_nonbasic columns stands rho last v h e =
     left_one columns stands rho last v h
     ∙ ap (λ b. cond b (then (dot_script rho (column_at columns v)) (λ alpha. then (left columns stands rho last (v + 1)) (λ es. Ok (with_first v alpha es)))) (left columns stands rho last (v + 1))) e
 
--- what was read, as the definitions read it
-column_read : (columns : List (List Fraction)) (v : ℕ) (c : List Fraction) → v < length columns → c ≡ get_or columns v c → column_at columns v ≡ c
-column_read columns v c h e = sym (e ∙ get_or_default columns v c [] h)
-
 -- ---- one variable
 zero_onto : (v : ℕ) (alpha : Fraction) (out : List Entry) (s : Result (List Entry) Refused) → is_zero alpha ≡ true → onto out (then s (λ es. Ok (with_first v alpha es))) ≡ onto out s
 zero_onto v alpha out (Ok es) e = ap (λ b. onto {E = Refused} out (Ok (cond b es (record { place = v; value = alpha } ∷ es)))) e
@@ -57,36 +53,21 @@ pub basic_goes : (columns : List (List Fraction)) (stands : List Stand) (rho : L
     r ≡ onto out (left columns stands rho last v) → v < last → is_nonbasic_at stands v ≡ false → r ≡ onto out (left columns stands rho last (v + 1))
 basic_goes columns stands rho last v r out i h g = i ∙ ap (onto out) (left_basic columns stands rho last v h g)
 
-nonbasic_go : (columns : List (List Fraction)) (stands : List Stand) (rho : List Fraction) (last v : ℕ) (c : List Fraction) (alpha : Fraction) (r : Result (List Entry) Refused) (out : List Entry) →
-    r ≡ onto out (left columns stands rho last v) → v < last → is_nonbasic_at stands v ≡ true → v < length columns → c ≡ get_or columns v c → Ok alpha ≡ dot_script rho c →
+nonbasic_go : (columns : List (List Fraction)) (stands : List Stand) (rho : List Fraction) (last v : ℕ) (alpha : Fraction) (r : Result (List Entry) Refused) (out : List Entry) →
+    r ≡ onto out (left columns stands rho last v) → v < last → is_nonbasic_at stands v ≡ true → dot_script rho (column_at columns v) ≡ Ok alpha →
     r ≡ onto out (then (left columns stands rho last (v + 1)) (λ es. Ok (with_first v alpha es)))
-nonbasic_go columns stands rho last v c alpha r out i h g l m d =
+nonbasic_go columns stands rho last v alpha r out i h g d =
     i ∙ ap (onto out) (left_nonbasic columns stands rho last v h g
-    ∙ ap (λ x. then x (λ alpha. then (left columns stands rho last (v + 1)) (λ es. Ok (with_first v alpha es)))) (ap (dot_script rho) (column_read columns v c l m) ∙ sym d))
+    ∙ ap (λ x. then x (λ alpha. then (left columns stands rho last (v + 1)) (λ es. Ok (with_first v alpha es)))) d)
 
-pub zero_goes : (columns : List (List Fraction)) (stands : List Stand) (rho : List Fraction) (last v : ℕ) (c : List Fraction) (alpha : Fraction) (r : Result (List Entry) Refused) (out : List Entry) →
-    r ≡ onto out (left columns stands rho last v) → v < last → is_nonbasic_at stands v ≡ true → v < length columns → c ≡ get_or columns v c → Ok alpha ≡ dot_script rho c →
-    is_zero alpha ≡ true → r ≡ onto out (left columns stands rho last (v + 1))
-zero_goes columns stands rho last v c alpha r out i h g l m d z =
-    nonbasic_go columns stands rho last v c alpha r out i h g l m d ∙ zero_onto v alpha out (left columns stands rho last (v + 1)) z
+pub zero_goes : (columns : List (List Fraction)) (stands : List Stand) (rho : List Fraction) (last v : ℕ) (alpha : Fraction) (r : Result (List Entry) Refused) (out : List Entry) →
+    r ≡ onto out (left columns stands rho last v) → v < last → is_nonbasic_at stands v ≡ true → dot_script rho (column_at columns v) ≡ Ok alpha → is_zero alpha ≡ true → r ≡ onto out (left columns stands rho last (v + 1))
+zero_goes columns stands rho last v alpha r out i h g d z = nonbasic_go columns stands rho last v alpha r out i h g d ∙ zero_onto v alpha out (left columns stands rho last (v + 1)) z
 
-pub entry_goes : (columns : List (List Fraction)) (stands : List Stand) (rho : List Fraction) (last v : ℕ) (c : List Fraction) (alpha : Fraction) (r : Result (List Entry) Refused) (out : List Entry) →
-    r ≡ onto out (left columns stands rho last v) → v < last → is_nonbasic_at stands v ≡ true → v < length columns → c ≡ get_or columns v c → Ok alpha ≡ dot_script rho c →
-    is_zero alpha ≡ false → r ≡ onto (out ++ record { place = v; value = alpha } ∷ []) (left columns stands rho last (v + 1))
-entry_goes columns stands rho last v c alpha r out i h g l m d z =
-    nonbasic_go columns stands rho last v c alpha r out i h g l m d ∙ nonzero_onto v alpha out (left columns stands rho last (v + 1)) z
-
--- a refusal behind old entries is that of the script
-pub onto_stops : {E : Type 0} (out : List Entry) (r : Result (List Entry) E) (e : E) → onto out r ≡ Err e → r ≡ Err e
-onto_stops out (Ok es) e h = absurd (cc)
-onto_stops out (Err d) e h = h
-
-pub entry_stops : (columns : List (List Fraction)) (stands : List Stand) (rho : List Fraction) (last v : ℕ) (c : List Fraction) (d : Refused) (old : List Entry) (r : Result (List Entry) Refused) (out : List Entry) →
-    onto old r ≡ onto out (left columns stands rho last v) → v < last → is_nonbasic_at stands v ≡ true → v < length columns → c ≡ get_or columns v c → Err d ≡ dot_script rho c →
-    r ≡ Err d
-entry_stops columns stands rho last v c d old r out i h g l m j =
-    onto_stops old r d (i ∙ ap (onto out) (left_nonbasic columns stands rho last v h g
-    ∙ ap (λ x. then x (λ alpha. then (left columns stands rho last (v + 1)) (λ es. Ok (with_first v alpha es)))) (ap (dot_script rho) (column_read columns v c l m) ∙ sym j)))
+pub entry_goes : (columns : List (List Fraction)) (stands : List Stand) (rho : List Fraction) (last v : ℕ) (alpha : Fraction) (r : Result (List Entry) Refused) (out : List Entry) →
+    r ≡ onto out (left columns stands rho last v) → v < last → is_nonbasic_at stands v ≡ true → dot_script rho (column_at columns v) ≡ Ok alpha → is_zero alpha ≡ false →
+    r ≡ onto (out ++ record { place = v; value = alpha } ∷ []) (left columns stands rho last (v + 1))
+entry_goes columns stands rho last v alpha r out i h g d z = nonbasic_go columns stands rho last v alpha r out i h g d ∙ nonzero_onto v alpha out (left columns stands rho last (v + 1)) z
 
 -- ---- slices one after the other
 -- what is left from a slice on

@@ -1,3 +1,4 @@
 pub mod Slices
-pub mod Follow
 pub mod Agreement
+pub mod Follow
+pub mod Sums

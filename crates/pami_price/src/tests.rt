@@ -4,7 +4,8 @@ ghost use Rattle.pami_script.specs.Dense.{Rising};
 
 use crate::{SliceRefused, price_all, price_slice};
 use pami_frac::{Entry, Fault, Frac, Op, Refused};
-use pami_vec::{SpVec, Stand};
+use pami_vec::{RowWise, SpVec, Stand};
+use std::alloc::Global;
 use std::test::Fail;
 
 const MAX: i128 = i128::MAX;
@@ -67,7 +68,7 @@ fn too_great() -> Refused {
     }
 }
 
-#[tactic(auto, using(crate::proofs::Rows::four_columns))]
+#[tactic(auto, using(crate::proofs::Rows::four_columns, crate::proofs::Rows::four_even))]
 #[test]
 fn a_slice_has_its_entries(rt: HostRuntime) -> Result<(), Fail> {
     let zero = Frac::zero();
@@ -87,20 +88,73 @@ fn a_slice_has_its_entries(rt: HostRuntime) -> Result<(), Fail> {
     columns.push(second)?;
     columns.push(third)?;
     columns.push(fourth)?;
-    let columns = columns.as_slice();
+    let by_row = RowWise::of(rt.alloc(), &columns)?;
     let stands = [Stand::Lower, Stand::Basic, Stand::Upper, Stand::Zero];
-    let slice = price_slice(rt.alloc(), columns, &stands, &rho, 0)?;
+    let slice = price_slice(rt.alloc(), &by_row, &stands, &rho, 0)?;
     assert!(rt; has(&slice, frac(3, 1), frac(-1, 1)));
-    let row = price_all(rt.alloc(), columns, &stands, &rho)?;
+    let row = price_all(rt.alloc(), &by_row, &stands, &rho)?;
     assert!(rt; has(&row, frac(3, 1), frac(-1, 1)));
     let stands = [Stand::Lower, Stand::Zero, Stand::Upper, Stand::Zero];
-    let answer = price_slice(rt.alloc(), columns, &stands, &rho, 0);
+    let answer = price_slice(rt.alloc(), &by_row, &stands, &rho, 0);
     assert_eq!(rt; refusal(&answer), Some(too_great()));
-    let answer = price_all(rt.alloc(), columns, &stands, &rho);
+    let answer = price_all(rt.alloc(), &by_row, &stands, &rho);
     let wanted = Some(SliceRefused {
         slice: 0,
         refused: too_great(),
     });
     assert_eq!(rt; row_refusal(&answer), wanted);
+    Ok(())
+}
+
+/// What the price of two columns answers where rho is the largest number in both rows and both variables are nonbasic: the
+/// slice of the first two variables.
+#[tactic(auto, using(crate::proofs::Rows::two_columns, crate::proofs::Rows::two_even))]
+fn priced_by_largest(
+    alloc: Global,
+    first: [Frac; 2],
+    second: [Frac; 2],
+) -> Result<Option<Refused>, Fail> {
+    let largest = frac(MAX, 1);
+    let rho = SpVec::from_entries(alloc, 2, &two(largest, largest))?;
+    let first = SpVec::from_entries(alloc, 2, &two(first[0], first[1]))?;
+    let second = SpVec::from_entries(alloc, 2, &two(second[0], second[1]))?;
+    if first.len() != rho.len() || second.len() != rho.len() {
+        return Ok(None);
+    }
+    let mut columns = Vec::new(alloc);
+    columns.push(first)?;
+    columns.push(second)?;
+    let by_row = RowWise::of(alloc, &columns)?;
+    let stands = [Stand::Lower, Stand::Zero];
+    Ok(refusal(&price_slice(alloc, &by_row, &stands, &rho, 0)))
+}
+
+/// The product of the largest number with this one, refused.
+fn product(right: i128) -> Option<Refused> {
+    Some(Refused {
+        op: Op::Mul,
+        left: frac(MAX, 1),
+        right: frac(right, 1),
+    })
+}
+
+#[test]
+fn the_least_variable_refuses(rt: HostRuntime) -> Result<(), Fail> {
+    let zero = Frac::zero();
+    let (one, second, third) = (Frac::one(), frac(2, 1), frac(3, 1));
+    // The walk over the rows meets the second column's product first. The first column's, one row later, is the answer.
+    assert_eq!(rt;
+        priced_by_largest(rt.alloc(), [zero, second], [second, zero])?,
+        product(2)
+    );
+    assert_eq!(rt;
+        priced_by_largest(rt.alloc(), [zero, second], [third, zero])?,
+        product(2)
+    );
+    // Here the first column's product fits.
+    assert_eq!(rt;
+        priced_by_largest(rt.alloc(), [zero, one], [third, zero])?,
+        product(3)
+    );
     Ok(())
 }

@@ -5,4 +5,4 @@ use Rattle.pami_price.proofs.Walked.{slices_left}
 use Rattle.pami_price.proofs.price.all_entries.Given as goal
 
 abbrev pub invariant-loop-slice : goal.invariant-loop-slice
-invariant-loop-slice l = row_script l.columns l.stands l.rho ≡ onto l.out.items (slices_left l.columns l.stands l.rho l.slice)
+invariant-loop-slice l = row_script l.by_row l.stands l.rho ≡ onto l.out.items (slices_left l.by_row l.stands l.rho l.slice)

@@ -10,6 +10,6 @@ use Rattle.pami_price.proofs.price.price_all.Goals as goal
 
 pub returns-clause-entries : goal.returns-clause-entries
 returns-clause-entries c = λ f b listed rows.
-    value_so (λ (es : Vec Entry). es.items) (row_script c.args.columns.now c.args.stands.now c.args.rho.now) c.all_entries.result
+    value_so (λ (es : Vec Entry). es.items) (row_script c.args.by_row.now c.args.stands.now c.args.rho.now) c.all_entries.result
     (λ (es : List Entry). es ≡ nonzero_entries (row_entry f c.args.rho.now) (all_nonbasic f b)) c.all_entries.ensures
-    (λ es e. row_value f b c.args.columns.now c.args.stands.now c.args.rho.now es listed rows e)
+    (λ es e. row_value f b c.args.by_row.now c.args.stands.now c.args.rho.now es listed rows e)

@@ -5,4 +5,4 @@ use Rattle.pami_price.proofs.Walked.{left}
 use Rattle.pami_price.proofs.price.price_onto.Given as goal
 
 abbrev pub invariant-loop-v : goal.invariant-loop-v
-invariant-loop-v l = onto l.fn.out.items (slice_script l.columns l.stands l.rho l.slice) ≡ onto l.out.items (left l.columns l.stands l.rho l.last l.v)
+invariant-loop-v l = onto l.fn.out.items (slice_script l.by_row l.stands l.rho l.slice) ≡ onto l.out.items (left l.by_row l.stands l.rho l.last l.v)

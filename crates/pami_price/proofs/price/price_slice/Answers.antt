@@ -11,6 +11,6 @@ use Rattle.pami_price.proofs.price.price_slice.Goals as goal
 
 pub returns-clause-entries : goal.returns-clause-entries
 returns-clause-entries c = λ f b listed rows.
-    value_so (λ (es : Vec Entry). es.items) (slice_script c.args.columns.now c.args.stands.now c.args.rho.now c.args.slice) c.slice_entries.result
+    value_so (λ (es : Vec Entry). es.items) (slice_script c.args.by_row.now c.args.stands.now c.args.rho.now c.args.slice) c.slice_entries.result
     (λ (es : List Entry). es ≡ nonzero_entries (row_entry f c.args.rho.now) (nonbasic_in f b c.args.slice)) c.slice_entries.ensures
-    (λ es e. slice_value f b c.args.columns.now c.args.stands.now c.args.rho.now c.args.slice es listed rows e)
+    (λ es e. slice_value f b c.args.by_row.now c.args.stands.now c.args.rho.now c.args.slice es listed rows e)
