@@ -8,7 +8,7 @@ use crate::build::all_widths;
 use crate::form::Form;
 use crate::list::{BoundsList, Columns};
 use pami_frac::{Bounds, Fault, Frac, FracList, OutOfMemory};
-use pami_vec::SpVec;
+use pami_vec::{RowWise, SpVec};
 use std::alloc::Global;
 
 /// Two finite bounds.
@@ -84,12 +84,14 @@ pub fn phase_one_form(alloc: Global, form: &Form) -> Result<Form, OutOfMemory>
     ensures { IfOk result (λ f. form_by f.columns f.bounds f.costs ≡ boxes_of (form_by form.now.columns form.now.bounds form.now.costs)) }
 {
     let columns = all_copied(alloc, form.columns.as_slice())?;
+    let by_row = RowWise::of(alloc, form.columns.as_slice())?;
     let bounds = all_boxes(alloc, form.bounds.as_slice())?;
     let costs = FracList::from_vec(Vec::from_slice(alloc, form.costs.as_slice())?);
     match all_widths(alloc, bounds.as_slice()) {
         Ok(widths) => Ok(Form {
             rows: form.rows,
             columns,
+            by_row,
             bounds,
             costs,
             widths,

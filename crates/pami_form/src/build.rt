@@ -18,7 +18,7 @@ use crate::form::{Form, WideBox};
 use crate::list::{BoundsList, Columns, WidthList};
 use pami_frac::{Bounds, Entry, Fault, Frac, FracList, OutOfMemory, Refused};
 use pami_model::{Column, Model, Row, Sense};
-use pami_vec::SpVec;
+use pami_vec::{RowWise, SpVec};
 use std::alloc::Global;
 use std::cmp::Ordering;
 
@@ -185,9 +185,11 @@ pub fn form_of(alloc: Global, model: &Model) -> Result<Form, Fault<WideBox>>
     let bounds = all_bounds(alloc, rows, columns)?;
     let costs = all_costs(alloc, model.sense, rows, columns)?;
     let widths = all_widths(alloc, bounds.as_slice())?;
+    let by_row = RowWise::of(alloc, vectors.as_slice())?;
     Ok(Form {
         rows: count,
         columns: vectors,
+        by_row,
         bounds,
         costs,
         widths,

@@ -92,7 +92,7 @@ four_columns a b c d rho h k l m (suc (suc (suc zero))) n = m
 four_columns a b c d rho h k l m (suc (suc (suc (suc v)))) n = absurd (omega arith)
 
 pub four_even : (a b c d rho : List Fraction) → length a ≡ length rho → length b ≡ length rho → length c ≡ length rho → length d ≡ length rho → AreEven (a ∷ b ∷ c ∷ d ∷ [])
-four_even a b c d rho h k l m = (length rho, four_columns a b c d rho h k l m)
+four_even a b c d rho h k l m = λ v n. four_columns a b c d rho h k l m v n ∙ sym h
 
 pub two_columns : (a b rho : List Fraction) → length a ≡ length rho → length b ≡ length rho → (v : ℕ) → v < 2 → length (column_at (a ∷ b ∷ []) v) ≡ length rho
 two_columns a b rho h k zero n = h
@@ -100,4 +100,4 @@ two_columns a b rho h k (suc zero) n = k
 two_columns a b rho h k (suc (suc v)) n = absurd (omega arith)
 
 pub two_even : (a b rho : List Fraction) → length a ≡ length rho → length b ≡ length rho → AreEven (a ∷ b ∷ [])
-two_even a b rho h k = (length rho, two_columns a b rho h k)
+two_even a b rho h k = λ v n. two_columns a b rho h k v n ∙ sym h

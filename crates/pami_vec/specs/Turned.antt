@@ -14,9 +14,9 @@ turned count rows = rows_from count 0 rows
 abbrev pub AreLong : ℕ → List (List Fraction) → Type 0
 AreLong count rows = (i : ℕ) → i < length rows → length (slice_index_or rows i []) ≡ count
 
--- each column has one length
+-- each column is as long as the first
 abbrev pub AreEven : List (List Fraction) → Type 0
-AreEven columns = (height : ℕ) × ((v : ℕ) → v < length columns → length (slice_index_or columns v []) ≡ height)
+AreEven columns = (v : ℕ) → v < length columns → length (slice_index_or columns v []) ≡ length (slice_index_or columns 0 [])
 
 -- the members of one row that the columns have there, by rising column; a row past the end has none
 pub record AreRowOf (columns : List (List Fraction)) (row : ℕ) (es : List Entry) : Type 0 where

@@ -27,4 +27,7 @@ pub returns : goal.returns
 returns c =
     ap (turned (length c.args.columns.now))
     (c.in_ok-rows.ensures ∙ ap (λ (head : List ℕ). rows_from c.height_of.result 0 (columns_at c.args.columns.now head)) (c.deref.ensures.value ∙ c.in_ok-head.ensures) ∙ ap (rows_from c.height_of.result 0) (all_ascending c.args.columns.now))
-    ∙ turned_back c.height_of.result c.args.columns.now c.height_of.ensures
+    ∙ turned_back c.height_of.result c.args.columns.now (λ v l. c.requires.even v l ∙ sym c.height_of.ensures)
+
+pub rows_of_columns-requires-clause-heights : goal.rows_of_columns-requires-clause-heights
+rows_of_columns-requires-clause-heights c = λ v l. c.requires.even v l ∙ sym c.height_of.ensures
