@@ -126,6 +126,7 @@ rising_lent columns cs bounds bs head hs stands ss a b c d h =
 -- they are those of the form and the state
 pub record AreLent (form : Form) (st : State) (x : CostLists) : Type 0 where
   pub columns_are : x.columns.now ≡ form.columns
+  pub rows_are : x.by_row.now ≡ form.columns
   pub bounds_are : x.bounds.now ≡ form.bounds
   pub costs_are : x.costs.now ≡ form.costs
   pub head_is : x.head.now ≡ st.head
@@ -143,6 +144,7 @@ cost_lists_of form st x k o a =
     record {
       rows = omega arith;
       few = subst (λ n. n < 2 ^ 32) (sym c) n.few;
+      turned = a.rows_are ∙ sym a.columns_are;
       by_bounds = c ∙ b;
       by_costs = ap length a.costs_are ∙ n.costs ∙ b;
       by_stands = ap length a.stands_are ∙ n.stands ∙ b;

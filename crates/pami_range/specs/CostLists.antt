@@ -12,6 +12,7 @@ use Rattle.pami_range.specs.Lists.{stand_at}
 pub record AreCostLists (x : CostLists) : Type 0 where
   pub rows : length x.head.now ≤ length x.columns.now
   pub few : length x.columns.now < 2 ^ 32
+  pub turned : x.by_row.now ≡ x.columns.now
   pub by_bounds : length x.columns.now ≡ length x.bounds.now
   pub by_costs : length x.costs.now ≡ length x.bounds.now
   pub by_stands : length x.stands.now ≡ length x.bounds.now

@@ -66,7 +66,7 @@ fn basic_span<L>(
             row_span(
                 alloc,
                 factor,
-                lists.columns,
+                lists.by_row,
                 lists.bounds,
                 lists.stands,
                 lists.reduced,

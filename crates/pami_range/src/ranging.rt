@@ -68,6 +68,7 @@ pub fn cost_spans<L>(
 {
     let lists = CostLists {
         columns: form.columns.as_slice(),
+        by_row: &form.by_row,
         bounds: form.bounds.as_slice(),
         costs: form.costs.as_slice(),
         head: state.head.as_slice(),

@@ -15,7 +15,7 @@ use pami_factor::Factor;
 use pami_frac::{Bounds, Entry, Fault, Frac, OutOfMemory, Refused};
 use pami_lu::Steps;
 use pami_price::{SliceRefused, price_all};
-use pami_vec::{Side, SpVec, Stand};
+use pami_vec::{RowWise, Side, SpVec, Stand};
 use std::alloc::Global;
 
 /// The end that isn't known, by this refusal.
@@ -82,7 +82,7 @@ pub(crate) fn members_span(
 pub(crate) fn row_span<L>(
     alloc: Global,
     factor: &Factor,
-    columns: &[SpVec],
+    by_row: &RowWise,
     bounds: &[Bounds],
     stands: &[Stand],
     reduced: &[Frac],
@@ -91,16 +91,16 @@ pub(crate) fn row_span<L>(
     steps: &mut Steps<L>,
 ) -> Result<Span, OutOfMemory>
     requires fresh { factor.now.pivots ≡ [] }
-    requires few { length columns.now < 2 ^ 32 }
+    requires few { length by_row.now < 2 ^ 32 }
     requires size { length factor.now.steps < 2 ^ 32 }
     requires place { place < length factor.now.steps }
-    requires columns { length columns.now ≡ length bounds.now }
+    requires columns { length by_row.now ≡ length bounds.now }
     requires stands { length stands.now ≡ length bounds.now }
     requires reduced { length reduced.now ≡ length bounds.now }
-    requires tall { (v : ℕ) → v < length columns.now → length (column_at columns.now v) ≡ length factor.now.steps }
+    requires tall { (v : ℕ) → v < length by_row.now → length (column_at by_row.now v) ≡ length factor.now.steps }
     // What is priced rises by variable.
-    requires rising { (rho : List Fraction) (es : List Entry) → length rho ≡ length factor.now.steps → row_script columns.now stands.now rho ≡ Ok es → Rising 0 (length bounds.now) es }
-    ensures span { IfOk result (λ span. span ≡ row_span factor.now.steps columns.now bounds.now stands.now reduced.now own place) }
+    requires rising { (rho : List Fraction) (es : List Entry) → length rho ≡ length factor.now.steps → row_script by_row.now stands.now rho ≡ Ok es → Rising 0 (length bounds.now) es }
+    ensures span { IfOk result (λ span. span ≡ row_span factor.now.steps by_row.now bounds.now stands.now reduced.now own place) }
     ensures counted { steps.new.count ≡ steps.old.count + 1 }
 {
     let rho = match factor.solve_backward(alloc, place, steps) {
@@ -108,7 +108,7 @@ pub(crate) fn row_span<L>(
         Err(Fault::Named(refused)) => return Ok(wide(&refused)),
         Err(Fault::OutOfMemory) => return Err(OutOfMemory),
     };
-    match price_all(alloc, columns, stands, &rho) {
+    match price_all(alloc, by_row, stands, &rho) {
         Ok(alpha) => Ok(entries_span(bounds, stands, reduced, own, alpha.as_slice())),
         Err(Fault::Named(SliceRefused { slice: _, refused })) => Ok(wide(&refused)),
         Err(Fault::OutOfMemory) => Err(OutOfMemory),

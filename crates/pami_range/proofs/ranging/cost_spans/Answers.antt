@@ -6,6 +6,7 @@ use Rattle.pami_range.proofs.ranging.cost_spans.Goals as goal
 pub cost_spans_by-requires-clause-lists : goal.cost_spans_by-requires-clause-lists
 cost_spans_by-requires-clause-lists g c = cost_lists_of c.args.form.now c.args.state.now _ c.args.form.now.kept c.requires.optimal (record {
   columns_are = c.as_slice.ensures;
+  rows_are = c.args.form.now.turned;
   bounds_are = c.as_slice-2.ensures;
   costs_are = c.as_slice-3.ensures;
   head_is = c.as_slice-4.ensures;
