@@ -119,13 +119,12 @@ fn price_one(
         (price_task (form_of form.now) number r row slice ∷ []) result }
 {
     let rho = minor.rho(place);
-    let columns = form.columns.as_slice();
     at(
         Spot::Price {
             minor: number,
             slice,
         },
-        price_slice(alloc, columns, minor.stands(), rho, slice),
+        price_slice(alloc, &form.by_row, minor.stands(), rho, slice),
     )
 }
 
