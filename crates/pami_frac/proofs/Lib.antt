@@ -21,3 +21,4 @@ pub mod Answers
 pub mod PrintedParts
 pub mod Infinite
 pub mod BoundOutcome
+mod WholeProducts

@@ -1,17 +1,19 @@
 -- A pair is reduced by what its numbers have in common.
 use Rattle.std.proofs.Common.{◌≡◌, ℕ, ◌*◌, ◌/◌, ◌<◌, ◌^◌, refl, sym, ap, ◌∙◌, subst, arith, lit<, Bool, true, false, cond, Option, Some, None}
-use native.Mathlib.Nat.{div-le_self}
+use native.Mathlib.Nat.{div-le_self, div_self, dvd_refl}
 use lib.IntN.{ℤ, pos, negsuc, ◌+ℤ◌, ◌*ℤ◌, nat_abs}
 use lib.Signed.{lt_z}
 use lib.Dec.{T, lt→ltb}
 use Rattle.std.proofs.lemmas.Int.{ints}
+use Rattle.std.proofs.lemmas.Nat.Gcd.{same_from_IsGcd}
+use Rattle.pami_algebra.specs.Gcd.{gcd_is}
 use Rattle.pami_algebra.specs.Fraction.{Fraction, gcd}
 use Rattle.pami_algebra.specs.Lowest.{is_lowest_in, den_pos}
 use Rattle.pami_algebra.specs.Reduced.{over}
 use Rattle.pami_algebra.proofs.Parts.{gcd_one, num_den_coprime}
 use Rattle.pami_frac.specs.Range.{small, signed_of}
 use Rattle.pami_frac.specs.Stored.{IsStored}
-use Rattle.pami_frac.specs.Checked.{small_int, then_int, sum_parts_of, sum_if, whole_if}
+use Rattle.pami_frac.specs.Checked.{small_int, small_nat, then_int, then_nat, sum_parts_by, sum_parts_of, sum_if, over_if}
 use Rattle.pami_frac.proofs.Signed.{kept_of, over_reduced}
 use Rattle.pami_frac.proofs.Sum_parts.{parts_are, parts_pos, int_is, sum_none, sum_some}
 use Rattle.pami_frac.proofs.Sum_gcd.{sum_gcd}
@@ -83,36 +85,60 @@ stored_whole z z' e h = subst (λ z. IsStored z 1) (sym e) (record { lowest = is
     one_pos : 0 < 1
     one_pos = omega arith
 
-then_small : (z : ℤ) (f : ℤ → Option (ℤ × ℕ)) → nat_abs z < 2 ^ 127 → then_int (small_int z) f ≡ f z
-then_small z f h = go (small (nat_abs z)) (lt→ltb (nat_abs z) (2 ^ 127) h)
+then_small : {A : Type 0} (z : ℤ) (f : ℤ → Option A) → nat_abs z < 2 ^ 127 → then_int (small_int z) f ≡ f z
+then_small {A} z f h = go (small (nat_abs z)) (lt→ltb (nat_abs z) (2 ^ 127) h)
   where
     go : (b : Bool) → T b → then_int (cond b (Some z) None) f ≡ f z
     go true t = refl
     go false t = absurd t
 
--- the sum of two whole numbers goes through nothing but their sum
-whole_parts : (a c : ℤ) → nat_abs a < 2 ^ 127 → nat_abs c < 2 ^ 127 → sum_parts_of a 1 c 1 ≡ then_int (small_int (a +ℤ c)) (λ n. Some (n, 1))
-unfolding gcd
-whole_parts a c h k =
-    ap (λ z. then_int (small_int z) (λ left. then_int (small_int (c *ℤ pos 1)) (λ right. then_int (small_int (left +ℤ right)) (λ n. Some (n, 1))))) (once a)
-    ∙ then_small a (λ left. then_int (small_int (c *ℤ pos 1)) (λ right. then_int (small_int (left +ℤ right)) (λ n. Some (n, 1)))) h
-    ∙ ap (λ z. then_int (small_int z) (λ right. then_int (small_int (a +ℤ right)) (λ n. Some (n, 1)))) (once c)
-    ∙ then_small c (λ right. then_int (small_int (a +ℤ right)) (λ n. Some (n, 1))) k
+then_small_nat : (n : ℕ) (f : ℕ → Option (ℤ × ℕ)) → n < 2 ^ 127 → then_nat (small_nat n) f ≡ f n
+then_small_nat n f h = go (small n) (lt→ltb n (2 ^ 127) h)
   where
+    go : (b : Bool) → T b → then_nat (cond b (Some n) None) f ≡ f n
+    go true t = refl
+    go false t = absurd t
+
+gcd_self : (b : ℕ) → gcd b b ≡ b
+gcd_self b = same_from_IsGcd b b _ b (gcd_is b b) (dvd_refl b, dvd_refl b, λ d h k. h)
+
+-- a sum over one denominator goes through nothing but the sum of the numerators
+level_parts : (a c : ℤ) (b : ℕ) → 0 < b → b < 2 ^ 127 → nat_abs a < 2 ^ 127 → nat_abs c < 2 ^ 127 → sum_parts_of a b c b ≡ then_int (small_int (a +ℤ c)) (λ n. Some (n, b))
+level_parts a c b p f h k =
+    ap (λ g. sum_parts_by a b c b g) (gcd_self b)
+    ∙ ap (λ t. then_int (small_int (a *ℤ pos t)) (λ left. then_int (small_int (c *ℤ pos t)) (λ right. then_int (small_int (left +ℤ right)) (λ n. then_nat (small_nat (b * t)) (λ m. Some (n, m)))))) (div_self p)
+    ∙ ap (λ t. then_int (small_int (a *ℤ pos 1)) (λ left. then_int (small_int (c *ℤ pos 1)) (λ right. then_int (small_int (left +ℤ right)) (λ n. then_nat (small_nat t) (λ m. Some (n, m)))))) times_one
+    ∙ ap (λ z. then_int (small_int z) (λ left. then_int (small_int (c *ℤ pos 1)) (λ right. then_int (small_int (left +ℤ right)) under))) (once a)
+    ∙ then_small a (λ left. then_int (small_int (c *ℤ pos 1)) (λ right. then_int (small_int (left +ℤ right)) under)) h
+    ∙ ap (λ z. then_int (small_int z) (λ right. then_int (small_int (a +ℤ right)) under)) (once c)
+    ∙ then_small c (λ right. then_int (small_int (a +ℤ right)) under) k
+    ∙ at_b (small_int (a +ℤ c))
+  where
+    under : ℤ → Option (ℤ × ℕ)
+    under n = then_nat (small_nat b) (λ m. Some (n, m))
+
     once : (z : ℤ) → z *ℤ pos 1 ≡ z
     once z = omega (arith, ints)
 
-whole_at : (p q : Fraction) (x : Option ℤ) → sum_parts_of p.num p.den q.num q.den ≡ then_int x (λ n. Some (n, 1)) → then_int x (λ n. Some (over n 1)) ≡ sum_if p q
-whole_at p q None e = sum_none p q e
-whole_at p q (Some n) e = sum_some p q n 1 e
+    times_one : b * 1 ≡ b
+    times_one = omega arith
 
-pub whole_is : (p q : Fraction) (a a' c c' : ℤ) (b d : ℕ) (r : Option Fraction) → a' ≡ a → a ≡ p.num → c' ≡ c → c ≡ q.num → nat_abs a < 2 ^ 127 → nat_abs c < 2 ^ 127 → b ≡ p.den → d ≡ q.den → b ≡ 1 → d ≡ 1 →
-    r ≡ whole_if (a' +ℤ c') → r ≡ sum_if p q
-whole_is p q a a' c c' b d r e f g h x y i j k l m =
-    let right : sum_parts_of p.num p.den q.num q.den ≡ sum_parts_of p.num 1 q.num 1 =
-    ap (λ b. sum_parts_of p.num b q.num q.den) (sym i ∙ k) ∙ ap (sum_parts_of p.num 1 q.num) (sym j ∙ l) in
-    m ∙ ap (λ z. whole_if (z +ℤ c')) (e ∙ f) ∙ ap (λ z. whole_if (p.num +ℤ z)) (g ∙ h)
-    ∙ whole_at p q (small_int (p.num +ℤ q.num)) (right ∙ whole_parts p.num q.num (subst (λ z. nat_abs z < 2 ^ 127) f x) (subst (λ z. nat_abs z < 2 ^ 127) h y))
+    at_b : (x : Option ℤ) → then_int x under ≡ then_int x (λ n. Some (n, b))
+    at_b None = refl
+    at_b (Some n) = then_small_nat b (λ m. Some (n, m)) f
+
+level_at : (p q : Fraction) (x : Option ℤ) (b : ℕ) → sum_parts_of p.num p.den q.num q.den ≡ then_int x (λ n. Some (n, b)) → then_int x (λ n. Some (over n b)) ≡ sum_if p q
+level_at p q None b e = sum_none p q e
+level_at p q (Some n) b e = sum_some p q n b e
+
+-- the sum of two with one denominator, at the numbers as the code has them
+pub level_is : (p q : Fraction) (a a' c c' : ℤ) (b d : ℕ) (r : Option Fraction) → a' ≡ a → a ≡ p.num → c' ≡ c → c ≡ q.num → nat_abs a < 2 ^ 127 → nat_abs c < 2 ^ 127 → 0 < b → b < 2 ^ 127 → b ≡ p.den → d ≡ q.den → b ≡ d →
+    r ≡ over_if (a' +ℤ c') b → r ≡ sum_if p q
+level_is p q a a' c c' b d r e f g h x y o u i j k m =
+    let right : sum_parts_of p.num p.den q.num q.den ≡ sum_parts_of p.num b q.num b =
+    ap (λ b. sum_parts_of p.num b q.num q.den) (sym i) ∙ ap (sum_parts_of p.num b q.num) (sym j ∙ sym k) in
+    m ∙ ap (λ z. over_if (z +ℤ c') b) (e ∙ f) ∙ ap (λ z. over_if (p.num +ℤ z) b) (g ∙ h)
+    ∙ level_at p q (small_int (p.num +ℤ q.num)) b (right ∙ level_parts p.num q.num b o u (subst (λ z. nat_abs z < 2 ^ 127) f x) (subst (λ z. nat_abs z < 2 ^ 127) h y))
 
 -- a number that was kept is small
 pub kept_is_small : (z v : ℤ) → Some v ≡ small_int z → nat_abs v < 2 ^ 127

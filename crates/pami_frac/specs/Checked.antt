@@ -34,9 +34,9 @@ sum_parts_by a b c d g =
 abbrev pub sum_parts_of : ℤ → ℕ → ℤ → ℕ → Option (ℤ × ℕ)
 sum_parts_of a b c d = sum_parts_by a b c d (gcd b d)
 
--- a whole number where it fits
-abbrev pub whole_if : ℤ → Option Fraction
-whole_if n = then_int (small_int n) (λ n. Some (over n 1))
+-- a number over a denominator, where the number fits
+abbrev pub over_if : ℤ → ℕ → Option Fraction
+over_if n d = then_int (small_int n) (λ n. Some (over n d))
 
 -- the sum where it fits
 abbrev pub sum_if : Fraction → Fraction → Option Fraction

@@ -1,15 +1,15 @@
 //! Sums, differences, products and quotients of fractions, each exact or refused.
 
-ghost use Rattle.std.specs.Prelude.{◌≡◌, ℕ, false, ◌<◌, ◌^◌, ◌*◌, ◌+ℤ◌, nat_abs};
+ghost use Rattle.std.specs.Prelude.{◌≡◌, ℕ, false, ◌<◌, ◌^◌, ◌*◌, ◌+ℤ◌, ◌*ℤ◌, nat_abs};
 ghost use Rattle.pami_algebra.specs.Fraction.{gcd as the_gcd};
 ghost use Rattle.pami_algebra.specs.Reduced.{over};
 ghost use Rattle.pami_algebra.specs.Operations.{inv_f};
 ghost use Rattle.pami_frac.specs.Range.{kept, signed_of};
 ghost use Rattle.pami_frac.specs.Signs.{is_zero};
 ghost use Rattle.pami_frac.specs.Arithmetic.{add_outcome, sub_outcome, mul_outcome, div_outcome};
-ghost use Rattle.pami_frac.specs.Checked.{sum_parts_by, whole_if, sum_if, product_if};
+ghost use Rattle.pami_frac.specs.Checked.{sum_parts_by, over_if, sum_if, product_if};
 
-use crate::checked::{multiple, product, quotient, total};
+use crate::checked::{multiple, product, quotient, times, total};
 use crate::frac::Frac;
 use crate::whole::{gcd, signed};
 
@@ -73,12 +73,13 @@ fn reduce(above: i128, below: u128, common: u128) -> Frac
     Frac::from_lowest(signed(above < 0, numerator), denominator)
 }
 
-/// The sum of two whole numbers, where it fits.
-fn whole_sum(a: i128, c: i128) -> Option<Frac>
-    ensures { result ≡ whole_if (a +ℤ c) }
+/// The sum of `a / b` and `c / b`, where their numerators' sum fits. For whole numbers `b` is 1, and nothing is reduced.
+fn level_sum(a: i128, c: i128, b: u128) -> Option<Frac>
+    requires { (0 < b) × (b < 2 ^ 127) }
+    ensures { result ≡ over_if (a +ℤ c) b }
 {
     match total(a, c) {
-        Some(sum) => Some(Frac::from_lowest(sum, 1)),
+        Some(sum) => Some(reduce(sum, b, b)),
         None => None,
     }
 }
@@ -89,8 +90,8 @@ fn sum_of(p: Frac, q: Frac) -> Option<Frac>
 {
     let (a, b) = (p.numerator(), p.below());
     let (c, d) = (q.numerator(), q.below());
-    if b == 1 && d == 1 {
-        return whole_sum(a, c);
+    if b == d {
+        return level_sum(a, c, b);
     }
     let common = gcd(b, d);
     match sum_parts(a, b, c, d, common) {
@@ -114,18 +115,32 @@ fn cross(negative: bool, a: u128, b: u128, c: u128, d: u128) -> Option<Frac>
     Some(Frac::from_lowest(signed(negative, above), below))
 }
 
-/// The product of two that aren't 0, where it fits.
+/// The product of two whole numbers, where it fits.
+fn whole_product(a: i128, c: i128) -> Option<Frac>
+    ensures { result ≡ over_if (a *ℤ c) 1 }
+{
+    match times(a, c) {
+        Some(product) => Some(Frac::from_lowest(product, 1)),
+        None => None,
+    }
+}
+
+/// The product of two that aren't 0, where it fits. That of two whole numbers is one multiplication.
 fn product_of(p: Frac, q: Frac) -> Option<Frac>
     requires left { is_zero p ≡ false }
     requires right { is_zero q ≡ false }
     ensures { result ≡ product_if p q }
 {
+    let (b, d) = (p.below(), q.below());
+    if b == 1 && d == 1 {
+        return whole_product(p.numerator(), q.numerator());
+    }
     cross(
         p.is_negative() != q.is_negative(),
         p.magnitude(),
-        p.below(),
+        b,
         q.magnitude(),
-        q.below(),
+        d,
     )
 }
 

@@ -3,7 +3,7 @@ use Rattle.std.proofs.lemmas.Int.{to_z-of_z}
 use mir.Syntax.{w128}
 use Rattle.pami_algebra.specs.Reduced.{over}
 use Rattle.pami_frac.proofs.Sum_parts.{moved, sum_none, sum_some}
-use Rattle.pami_frac.proofs.Reducing.{pair_is, divisor_at, whole_is}
+use Rattle.pami_frac.proofs.Reducing.{pair_is, divisor_at, level_is}
 use Rattle.pami_frac.proofs.arithmetic.sum_of.Goals as goal
 
 pub reduce-requires-clause-below_fits : goal.reduce-requires-clause-below_fits
@@ -38,8 +38,8 @@ returns-in-None c =
     let e = moved c.args.p c.args.q _ _ c.below-b.result c.below-d.result c.gcd-common.result x c.below-b.ensures.value y c.below-d.ensures.value c.gcd-common.ensures.value in
     sum_none c.args.p c.args.q (sym e ∙ sym c.in-None.ensures)
 
-pub returns-then-d-eq1 : goal.returns-then-d-eq1
-returns-then-d-eq1 c =
-    whole_is c.args.p c.args.q c.numerator-a.result _ c.numerator-c.result _ c.below-b.result c.below-d.result c.whole_sum.result
+pub returns-then-b-d : goal.returns-then-b-d
+returns-then-b-d c =
+    level_is c.args.p c.args.q c.numerator-a.result _ c.numerator-c.result _ c.below-b.result c.below-d.result c.level_sum.result
     (to_z-of_z w128 c.numerator-a.result (record { sfits = c.numerator-a.type_inv })) c.numerator-a.ensures.value (to_z-of_z w128 c.numerator-c.result (record { sfits = c.numerator-c.type_inv })) c.numerator-c.ensures.value
-    c.numerator-a.ensures.small c.numerator-c.ensures.small c.below-b.ensures.value c.below-d.ensures.value c.if-b-eq1.true c.if-d-eq1.true c.whole_sum.ensures
+    c.numerator-a.ensures.small c.numerator-c.ensures.small c.below-b.ensures.positive c.below-b.ensures.small c.below-b.ensures.value c.below-d.ensures.value c.if-b-d.true c.level_sum.ensures
