@@ -17,3 +17,4 @@ pub mod Loops
 pub mod Answered
 pub mod Listed
 pub mod Lent
+pub mod Mapped

@@ -1,6 +1,6 @@
 //! The loop over the steps of an elimination.
 
-ghost use Rattle.std.specs.Prelude.{◌≡◌, ◌<◌, ◌≤◌, ◌^◌, ℕ, Bool, List, length, true, false, [], ◌∷◌, ◌++◌, IfOk};
+ghost use Rattle.std.specs.Prelude.{◌≡◌, ◌<◌, ◌≤◌, ◌^◌, ℕ, Bool, List, length, true, false, [], IfOk};
 ghost use Rattle.pami_frac.specs.Signs.{is_zero};
 ghost use Rattle.pami_frac.specs.Answers.{FollowsBy};
 ghost use Rattle.pami_factoring.specs.Factor.{entry, row_at, elimination_script};
@@ -86,13 +86,6 @@ fn next_pivot(places: &[bool], rows: &[SpVec], members: &[RowSet]) -> Result<Fou
     }
 }
 
-/// Puts a step at the end; tells whether there was memory for it.
-fn push_step(steps: &mut Vec<SparseStep>, step: SparseStep) -> bool
-    ensures { result ≡ true → steps.new.items ≡ steps.old.items ++ (step ∷ []) }
-{
-    steps.push(step).is_ok()
-}
-
 /// The elimination of a square matrix, given by its rows and, for each place, the rows with a nonzero there.
 pub(crate) fn eliminate_rows(
     alloc: Global,
@@ -113,13 +106,10 @@ pub(crate) fn eliminate_rows(
     for k in 0..m {
         let pivot = next_pivot(&places, &rows, &members)?;
         places[pivot.place] = false;
-        let step = match take_step(alloc, &mut rows, &mut members, pivot.row, pivot.place) {
-            Ok(step) => step,
-            Err(fault) => return Err(widen(fault)),
-        };
-        if !push_step(&mut steps, step) {
-            return Err(Fault::OutOfMemory);
-        }
+        let step = take_step(alloc, &mut rows, &mut members, pivot.row, pivot.place).map_err(
+            widen,
+        )?;
+        steps.push(step)?;
     }
     Ok(Lu::of(steps))
 }
