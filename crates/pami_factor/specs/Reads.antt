@@ -1,13 +1,14 @@
 -- What a solve reads of the stored steps.
-use Rattle.std.specs.Prelude.{◌≡◌, ℕ, Bool, true, false, List, length, set, Result, Ok, slice_index_or}
+use Rattle.std.specs.Prelude.{◌≡◌, ℕ, Bool, true, false, List, [], length, set, Result, Ok, slice_index_or}
 use lib.IntN.{pos}
 use Rattle.pami_algebra.specs.Fraction.{Fraction}
 use Rattle.pami_algebra.specs.Operations.{of_int}
 use Rattle.pami_linear.specs.Lists.{get}
 use Rattle.pami_frac.specs.declared.arithmetic.Refused.{Refused}
 use Rattle.pami_script.specs.Script.{then}
+use Rattle.pami_factoring.specs.declared.kept.Kept.{Kept}
 use Rattle.pami_factoring.specs.Factor.{flag}
-use Rattle.pami_factoring.specs.Solve.{sub_all}
+use Rattle.pami_factoring.specs.Solve.{sub_all, factors, by_row}
 use Rattle.pami_lu.specs.declared.step.SparseStep.{SparseStep}
 use Rattle.pami_lu.specs.Stored.{with_passed}
 
@@ -31,3 +32,7 @@ pub record IsLeftOut (ts : List Bool) (m : ℕ) (multipliers : List Fraction) : 
 -- the members with that of a step's row, less the active ones times their multipliers
 abbrev pub row_value : List Bool → SparseStep → List Fraction → Result (List Fraction) Refused
 row_value ts s v = then (sub_all ts s.multipliers v (get v s.row)) (λ t. Ok (set v s.row t))
+
+-- the factors of all steps for a right side, each in its step's row
+abbrev pub row_factors : List Kept → List Fraction → Result (List Fraction) Refused
+row_factors ks c = then (factors ks ks [] c) (λ ws. Ok (by_row (length c) ks ws))

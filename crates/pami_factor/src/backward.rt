@@ -7,13 +7,13 @@ ghost use Rattle.pami_frac.specs.Answers.{FollowsBy, BecomesBy};
 ghost use Rattle.pami_frac.specs.Arithmetic.{div_outcome};
 ghost use Rattle.pami_script.specs.Dense.{at, Rising};
 ghost use Rattle.pami_script.specs.Script.{then, sub_product as the_sub_product};
-ghost use Rattle.pami_factoring.specs.Solve.{factors, by_row, combined, backward_script};
+ghost use Rattle.pami_factoring.specs.Solve.{combined, backward_script};
 ghost use Rattle.pami_vec.specs.Pivots.{column_pivots, ArePivots};
 ghost use Rattle.pami_lu.specs.Stored.{full_steps, AreWhole};
-ghost use Rattle.pami_factor.specs.Reads.{IsLeftOut, rest_at, row_value};
+ghost use Rattle.pami_factor.specs.Reads.{IsLeftOut, rest_at, row_value, row_factors};
 ghost use Rattle.pami_factor.specs.Units.{unit_list};
 
-use crate::dense::{unit, zeros};
+use crate::dense::{unit, vector_of, zeros};
 use crate::product::go_back_all;
 use crate::sums::subtract_entries;
 use pami_frac::{Entry, Fault, Frac, OutOfMemory, Refused};
@@ -30,7 +30,7 @@ type Rest = Result<Frac, Refused>;
 fn all_left(alloc: Global, right: &[Frac]) -> Result<Vec<Rest>, OutOfMemory>
     ensures { IfOk result (λ rests. rests.items ≡ map (λ t. Ok t) right.now) }
 {
-    let mut rests = Vec::new(alloc);
+    let mut rests = Vec::with_capacity(alloc, right.len())?;
     for member in right {
         rests.push(Ok(*member))?;
     }
@@ -69,7 +69,7 @@ fn factor_of(rest: Rest, pivot: Frac) -> Result<Frac, Refused>
     rest?.div(pivot)
 }
 
-/// The factors of all steps, for a right side by place.
+/// The factors of all steps by row, each in the row of its step, for a right side by place.
 pub(crate) fn find_factors(
     alloc: Global,
     steps: &[SparseStep],
@@ -78,37 +78,16 @@ pub(crate) fn find_factors(
     requires few { length right.now < 2 ^ 32 }
     requires stored { AreWhole steps.now }
     requires same { length right.now ≡ length steps.now }
-    ensures script { FollowsBy (λ v. v.items) (factors (full_steps [] steps.now) (full_steps [] steps.now) [] right.now) result }
-    ensures size { IfOk result (λ v. length v.items ≡ length steps.now) }
+    ensures script { FollowsBy (λ v. v.items) (row_factors (full_steps [] steps.now) right.now) result }
+    ensures size { IfOk result (λ v. length v.items ≡ length right.now) }
 {
     let mut rests = all_left(alloc, right)?;
-    let mut out = Vec::new(alloc);
+    let mut out = zeros(alloc, right.len())?;
     for step in steps {
         let own = step.place as u32;
         let factor = factor_of(rests[step.place], step.kept.at(own))?;
         take_kept(rests.as_mut_slice(), factor, step.kept.entries(), own);
-        out.push(factor)?;
-    }
-    Ok(out)
-}
-
-/// The factors by row: each in the row of its step.
-pub(crate) fn factors_by_row(
-    alloc: Global,
-    steps: &[SparseStep],
-    factors: &[Frac],
-) -> Result<Vec<Frac>, OutOfMemory>
-    requires stored { AreWhole steps.now }
-    requires same { length factors.now ≡ length steps.now }
-    ensures values { IfOk result (λ v. v.items ≡ by_row (length factors.now) (full_steps [] steps.now) factors.now) }
-    ensures size { IfOk result (λ v. length v.items ≡ length factors.now) }
-{
-    let mut out = zeros(alloc, steps.len())?;
-    let mut k = steps.len();
-    while k > 0 {
-        k -= 1;
-        let step = &steps[k];
-        out[step.row] = factors[k];
+        out[step.row] = factor;
     }
     Ok(out)
 }
@@ -160,8 +139,7 @@ pub(crate) fn solve_row(
 {
     let mut right = unit(alloc, steps.len(), place)?;
     go_back_all(right.as_mut_slice(), pivots)?;
-    let factors = find_factors(alloc, steps, &right)?;
-    let mut solution = factors_by_row(alloc, steps, &factors)?;
+    let mut solution = find_factors(alloc, steps, &right)?;
     combine(solution.as_mut_slice(), steps)?;
-    Ok(SpVec::from_dense(alloc, &solution)?)
+    Ok(vector_of(alloc, &solution)?)
 }

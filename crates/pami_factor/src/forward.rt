@@ -10,7 +10,7 @@ ghost use Rattle.pami_lu.specs.declared.step.SparseStep.{SparseStep};
 ghost use Rattle.pami_lu.specs.Stored.{full_step, full_steps, IsStored, AreWhole};
 ghost use Rattle.pami_factor.specs.Reads.{IsRead};
 
-use crate::dense::zeros;
+use crate::dense::{vector_of, zeros};
 use crate::sums::subtract_entries;
 use pami_frac::{Fault, Frac, Refused};
 use pami_lu::SparseStep;
@@ -112,5 +112,5 @@ pub(crate) fn solve_column(
     go_down(right.as_mut_slice(), steps)?;
     let mut solution = go_up(alloc, steps, &right)?;
     go_through_all(solution.as_mut_slice(), pivots)?;
-    Ok(SpVec::from_dense(alloc, &solution)?)
+    Ok(vector_of(alloc, &solution)?)
 }
