@@ -11,6 +11,7 @@ pub mod Stepped
 pub mod Sought
 pub mod Beside
 pub mod Columns
+pub mod Ahead
 pub mod Alike
 pub mod Restored
 pub mod Loops

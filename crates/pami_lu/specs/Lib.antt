@@ -5,3 +5,4 @@ pub mod Plain
 pub mod Clear
 pub mod Cleaned
 pub mod Stored
+pub mod Ahead

@@ -1,12 +1,13 @@
 //! One step of an elimination at a pivot.
 
-ghost use Rattle.std.specs.Prelude.{◌≡◌, ◌<◌, ◌≤◌, ◌^◌, ℕ, length, true, false, [], List, All, set, replicate, pos, cond, IfOk};
+ghost use Rattle.std.specs.Prelude.{◌≡◌, ◌<◌, ◌≤◌, ◌^◌, ℕ, length, true, false, [], List, All, set, replicate, pos, cond, drop, IfOk};
 ghost use Rattle.pami_algebra.specs.Operations.{of_int};
 ghost use Rattle.pami_frac.specs.Signs.{is_zero};
 ghost use Rattle.pami_linear.specs.Lists.{get};
 ghost use Rattle.pami_script.specs.Dense.{Rising};
 ghost use Rattle.pami_frac.specs.Answers.{FollowsBy};
 ghost use Rattle.pami_factoring.specs.Factor.{row_at};
+ghost use Rattle.pami_lu.specs.Ahead.{from_place, is_first};
 ghost use Rattle.pami_lu.specs.Members.{Ascends, AreOthers, with_row, without_row};
 ghost use Rattle.pami_lu.specs.Plain.{plain_row, plain_rows, change_all, left_by, noted};
 
@@ -64,7 +65,26 @@ fn note_one(set: &mut RowSet, row: u32, gone: bool) -> Result<(), OutOfMemory>
     }
 }
 
-/// Brings the sets up to date with a row that has changed at the places of these entries alone.
+/// The index of the first entry from `from` on that isn't below a place.
+fn index_from(entries: &[Entry], from: usize, place: u32) -> usize
+    ensures { drop result entries.now ≡ from_place place (drop from entries.now) }
+{
+    let mut k = from;
+    while k < entries.len() && entries[k].place < place {
+        k += 1;
+    }
+    k
+}
+
+/// Does an entry at this place stand at this index?
+fn is_at(entries: &[Entry], k: usize, place: u32) -> bool
+    ensures { result ≡ is_first place (drop k entries.now) }
+{
+    k < entries.len() && entries[k].place == place
+}
+
+/// Brings the sets up to date with a row that has changed at the places of these entries alone. The row's own entries are
+/// gone along with them.
 fn note(
     members: &mut Vec<RowSet>,
     row: u32,
@@ -72,11 +92,14 @@ fn note(
     now: &SpVec,
 ) -> Result<(), OutOfMemory>
     requires known { All (λ e. e.place < length members.old.items) changed.now }
-    requires low { All (λ e. e.place < length now.now) changed.now }
+    requires rising { Rising 0 (length now.now) changed.now }
     ensures { IfOk result (λ _. members.new.items ≡ change_all changed.now (noted row now.now) members.old.items) }
 {
+    let left = now.entries();
+    let mut k = 0;
     for entry in changed {
-        let gone = now.at(entry.place).is_zero();
+        k = index_from(left, k, entry.place);
+        let gone = !is_at(left, k, entry.place);
         note_one(&mut members[entry.place as usize], row, gone)?;
     }
     Ok(())

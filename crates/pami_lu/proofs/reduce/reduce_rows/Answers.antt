@@ -87,8 +87,8 @@ note-requires-clause-known c =
     let n : length c.in_ok-rest.rest ≡ length c.loop-h.members.items = ap length c.in_ok-rest.ensures ∙ length-set c.args.kept.now c.args.place (of_int (pos 0)) ∙ sym c.loop-h.invariant.2 in
     entries_low c.entries.result.now 0 (length c.loop-h.members.items) (subst (λ k. Rising 0 k c.entries.result.now) n c.entries.ensures.rising)
 
-pub note-requires-clause-low : goal.note-requires-clause-low
-note-requires-clause-low c =
+pub note-requires-clause-rising : goal.note-requires-clause-rising
+note-requires-clause-rising c =
     let m = length c.args.kept.now in
     let below = c.args.below.now in
     let i = c.loop-h.h-index in
@@ -102,7 +102,7 @@ note-requires-clause-low c =
     row_long c.args.place c.at-pivot.result c.in_ok-rest.rest c.index.result.now c.in_ok-next.next.row c.in_ok-next.next.multiplier c.in_ok-next.ensures
     ∙ ap length (c.index.ensures ∙ get_or_default rows h c.index.result.now [] lh) ∙ turn_head m rows es h (drop (i + 1) below) t in
     let n : length c.in_ok-rest.rest ≡ length c.in_ok-next.next.row = ap length c.in_ok-rest.ensures ∙ length-set c.args.kept.now c.args.place (of_int (pos 0)) ∙ sym long in
-    entries_low c.entries.result.now 0 (length c.in_ok-next.next.row) (subst (λ k. Rising 0 k c.entries.result.now) n c.entries.ensures.rising)
+    subst (λ k. Rising 0 k c.entries.result.now) n c.entries.ensures.rising
 
 pub from_entries-requires : goal.from_entries-requires
 from_entries-requires c =
