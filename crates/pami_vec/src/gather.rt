@@ -21,11 +21,7 @@ fn empty_rows(alloc: Global, count: usize) -> Result<Vec<RowEntries>, OutOfMemor
 }
 
 /// Puts each entry of the column at a place at the end of its row.
-fn put_column(
-    lists: &mut Vec<RowEntries>,
-    place: u32,
-    column: &SpVec,
-) -> Result<(), OutOfMemory>
+fn put_column(lists: &mut Vec<RowEntries>, place: u32, column: &SpVec) -> Result<(), OutOfMemory>
     requires { length column.now ≡ length lists.old.items }
     ensures { IfOk result (λ _. AddsColumn place column.now lists.old.items lists.new.items) }
 {

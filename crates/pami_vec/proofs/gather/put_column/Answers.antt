@@ -17,10 +17,11 @@ loop-entry-preserved c =
     let es = c.entries-entry-items.result.now in
     let low = place_below es 0 (length c.args.column.now) c.loop-entry.entry-index c.entry-item.result c.entries-entry-items.ensures.rising c.loop-entry-test.true c.entry-item.is in
     let same = c.loop-entry.invariant.1 in
-    let tall = c.requires in
-    (spread_step c.args.place es c.loop-entry.entry-index c.entry-item.result (spread c.args.place es c.args.lists.now.items) c.loop-entry.lists.items c.index_mut.result.now c.push.new.self
-    c.loop-entry.invariant.0 c.loop-entry-test.true c.entry-item.is (omega arith) c.index_mut.ensures.value c.in_ok-push.ensures,
-    length-set c.loop-entry.lists.items c.entry-item.result.place c.push.new.self ∙ same)
+    let tall = c.requires in (
+      spread_step c.args.place es c.loop-entry.entry-index c.entry-item.result (spread c.args.place es c.args.lists.now.items) c.loop-entry.lists.items c.index_mut.result.now c.push.new.self
+          c.loop-entry.invariant.0 c.loop-entry-test.true c.entry-item.is (omega arith) c.index_mut.ensures.value c.in_ok-push.ensures,
+      length-set c.loop-entry.lists.items c.entry-item.result.place c.push.new.self ∙ same,
+    )
 
 pub returns : goal.returns
 returns c =
