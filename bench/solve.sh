@@ -1,5 +1,5 @@
 #!/usr/bin/env bash
-# Times `pami solve` on models of 20 to 100 rows beside glpsol --exact and esolver, and compares the objectives:
+# Times `pami solve` on models of 20 to 256 rows beside glpsol --exact and esolver, and compares the objectives:
 # solve.sh [PROGRAM], by default the program that ./pami builds. RUNS sets how many runs each number is the median of.
 set -eu
 top=$(cd "$(dirname "${BASH_SOURCE[0]}")/.." && pwd)
